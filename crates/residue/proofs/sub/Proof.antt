@@ -1,0 +1,35 @@
+-- The 32-bit difference is right by proofs/Difference.antt; what is left is that nothing overflows 64 bits.
+use mathlib.Core.Path.{_∙_}
+use Prim.Native.Nat.{_+_, _*_, _/_, _^_}
+use native.Mathlib.Omega.{arith}
+use lib.Bits.{and-mask, mask-lt}
+use borrow.Author.Needs.{needs}
+use Rattle.residue.proofs.Difference.{difference, d-lt, added-le, value}
+use Rattle.residue.proofs.sub.Statement.{statement}
+use Rattle.residue.proofs.sub.Tie as tie
+
+add-d : tie.Need-add-d
+add-d c = search needs
+
+sub-d : tie.Need-sub-d
+sub-d c = search needs
+
+mul-result : tie.Need-mul-result
+mul-result c = record { fits = omega (arith, added-le (c .args .a) (c .args .b) (c .args .q) (c .pre .0) (c .pre .1) (c .pre .2)) }
+
+add-result : tie.Need-add-result
+add-result c =
+    let l = d-lt (c .args .a) (c .args .b) (c .args .q) (c .pre .0) (c .pre .1) (c .pre .2) in
+    let m = added-le (c .args .a) (c .args .b) (c .args .q) (c .pre .0) (c .pre .1) (c .pre .2) in
+    record { fits = omega arith }
+
+cast-result : tie.Need-cast-result
+cast-result c =
+    let d = difference (c .args .a) (c .args .b) in
+    record { fits = mask-lt (d + c .args .q * (d / 2 ^ 31)) 32 }
+
+returns : tie.Need-returns
+returns c = and-mask _ 32 ∙ value (c .args .a) (c .args .b) (c .args .q) (c .pre .0) (c .pre .1) (c .pre .2)
+
+pub sub-spec : {M : Type 1} → statement M
+sub-spec = tie.close (tie.spec add-d sub-d mul-result add-result cast-result returns)

@@ -1,0 +1,3 @@
+pub mod Residue
+pub mod Laws
+pub mod Sum

@@ -1,0 +1,62 @@
+// Arithmetic modulo q, with no division, remainder, comparison or branch on the operands.
+// Every cast to or from Word stands here.
+ghost use mathlib.Core.Path.{_≡_};
+ghost use Prim.Native.Nat.{_+_, _^_, _≤_, _<_};
+ghost use lib.IntN.{pos};
+ghost use Rattle.residue.specs.Residue.{add, sub};
+
+// The type of a modulus, a random word and an arithmetic share.
+pub type Word = u16;
+
+// The type of a sum of two words.
+pub type Wide = u32;
+
+// (a - b) mod q. Bit 31 of the 32-bit difference says whether it fell below zero, and q is added that many times.
+pub fn sub(a: Wide, b: Wide, q: Wide) -> Wide
+    requires { ⌜ (b ≤ q) × (a < q + b) × (q < 2 ^ 31) ⌝ }
+    ensures { λ r. ⌜ r ≡ sub q a b ⌝ }
+{
+    let d = (a as u64 + 0x100000000 - b as u64) & 0xffffffff;
+    ((d + (q as u64) * (d >> 31)) & 0xffffffff) as Wide
+}
+
+// (a + b) mod q.
+pub fn add(a: Wide, b: Wide, q: Wide) -> Wide
+    requires { ⌜ (a < q) × (b < q) × (q < 2 ^ 31) ⌝ }
+    ensures { λ r. ⌜ r ≡ add q a b ⌝ }
+{
+    sub(a + b, q, q)
+}
+
+pub fn widen(x: Word) -> Wide
+    ensures { λ r. ⌜ r ≡ x ⌝ }
+{
+    x as Wide
+}
+
+// Loses nothing: what is below a Word fits a Word.
+pub fn narrow(x: Wide, q: Word) -> Word
+    requires { ⌜ x < q ⌝ }
+    ensures { λ r. ⌜ r ≡ x ⌝ }
+{
+    x as Word
+}
+
+pub fn from_u16(x: u16) -> Word
+    ensures { λ r. ⌜ r ≡ x ⌝ }
+{
+    x as Word
+}
+
+pub fn to_usize(x: Word) -> usize
+    ensures { λ r. ⌜ r ≡ x ⌝ }
+{
+    x as usize
+}
+
+pub fn to_i32(x: Word) -> i32
+    requires { ⌜ x < 2 ^ 31 ⌝ }
+    ensures { λ r. ⌜ r ≡ pos x ⌝ }
+{
+    x as i32
+}
