@@ -1,0 +1,54 @@
+-- Laws of a list of which a part was overwritten.
+use mathlib.Core.Path.{_≡_, refl, sym, ap, _∙_}
+use mathlib.Core.List.{List, [], _∷_, _++_}
+use Prim.Native.Nat.{ℕ, zero, suc, _+_, _≤_, _<_}
+use native.Mathlib.Nat as N
+use native.Mathlib.Numerals.{add-one}
+use native.Mathlib.Omega.{arith}
+use lib.ListN.{length, getD, set, take, drop, length-append}
+use lib.Seq.{take-length, take-at, drop-at, drop-cons, set-at, append-snoc, paste, paste-zero, paste-suc, length-paste}
+use Rattle.buffers.specs.Overwrite.{overwrite}
+
+-- ---- one element at a time: s is written as far as its first i elements
+
+unfoldable pub written : List ℕ → ℕ → List ℕ → ℕ → List ℕ
+written l start s i = paste l start s i
+
+module _ (l : List ℕ) (start : ℕ) (s : List ℕ) where
+  pub written-none : l ≡ written l start s 0
+  unfolding written
+  written-none = paste-zero l start s
+
+  pub written-next : (t : List ℕ) (i v : ℕ) → t ≡ written l start s i → getD s i 0 ≡ v → start + i < length l → i < length s → set t (start + i) v ≡ written l start s (i + 1)
+  unfolding written
+  written-next t i v w e h m = rw (w, ← e, add-one i) (paste-suc l start s i 0 h m)
+
+  pub written-all : (i : ℕ) → i ≡ length s → written l start s i ≡ overwrite l start s
+  unfolding written overwrite
+  written-all i e = rw (e, take-length)
+
+  -- ---- the whole
+
+  pub length-overwrite : start + length s ≤ length l → length (overwrite l start s) ≡ length l
+  length-overwrite h = ap length (sym (written-all (length s) refl)) ∙ (unfold written in (length-paste l start s (length s) h (omega arith)))
+
+-- ---- at the front
+
+pub front : (l s : List ℕ) → overwrite l 0 s ≡ s ++ drop (length s) l
+unfolding overwrite
+front l s = ap (λ (k : ℕ). s ++ drop k l) (N.zero-add (length s))
+
+module _ (l s : List ℕ) where
+  pub take-front : take (length s) (overwrite l 0 s) ≡ s
+  take-front = ap (take (length s)) (front l s) ∙ take-at s (drop (length s) l) (length s) refl
+
+  pub drop-front : drop (length s) (overwrite l 0 s) ≡ drop (length s) l
+  drop-front = ap (drop (length s)) (front l s) ∙ drop-at s (drop (length s) l) (length s) refl
+
+  -- one element more behind it
+  pub front-snoc : (v : ℕ) → length s < length l → set (overwrite l 0 s) (length s) v ≡ overwrite l 0 (s ++ (v ∷ []))
+  front-snoc v h =
+      let rest : List ℕ = drop (suc (length s)) l in
+      let e : length (s ++ (v ∷ [])) ≡ suc (length s) = omega (arith, length-append s (v ∷ [])) in
+      rw (front l s, front l (s ++ (v ∷ [])), e, drop-cons l (length s) 0 h)
+      (set-at s (getD l (length s) 0) rest v (length s) refl ∙ sym (append-snoc s v rest))

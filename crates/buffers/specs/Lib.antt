@@ -1,0 +1,2 @@
+pub mod Overwrite
+pub mod Laws

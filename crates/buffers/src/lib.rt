@@ -1,0 +1,34 @@
+// Writing a part of a list. What lies before and behind the part keeps its content.
+use residue::Word;
+ghost use mathlib.Core.Path.{_≡_};
+ghost use Prim.Native.Nat.{_+_, _≤_};
+ghost use lib.ListN.{length, replicate};
+ghost use Rattle.buffers.specs.Overwrite.{overwrite};
+
+// The elements of `from`, at `start` and behind.
+pub fn copy(to: &mut [u16], start: usize, from: &[u16])
+    requires { ⌜ start + length (now from) ≤ length (now to) ⌝ }
+    ensures { λ _. ⌜ now (to .exit) ≡ overwrite (now (to .entry)) start (now (from .entry)) ⌝ }
+{
+    for i in 0..from.len() {
+        to[start + i] = from[i];
+    }
+}
+
+// `count` times `value`, at `start` and behind.
+pub fn fill(to: &mut [Word], start: usize, count: usize, value: Word)
+    requires { ⌜ start + count ≤ length (now to) ⌝ }
+    ensures { λ _. ⌜ now (to .exit) ≡ overwrite (now (to .entry)) start (replicate count value) ⌝ }
+{
+    for i in 0..count {
+        to[start + i] = value;
+    }
+}
+
+// Zeros in the first `count` positions.
+pub fn zero(to: &mut [Word], count: usize)
+    requires { ⌜ count ≤ length (now to) ⌝ }
+    ensures { λ _. ⌜ now (to .exit) ≡ overwrite (now (to .entry)) 0 (replicate count 0) ⌝ }
+{
+    fill(to, 0, count, 0);
+}
