@@ -1,0 +1,139 @@
+-- Laws of searches, and of going through a list of checks.
+use mathlib.Core.Path.{_≡_, refl, sym, ap, _∙_}
+use mathlib.Core.Bool.{Bool, true, false}
+use mathlib.Core.List.{List, [], _∷_}
+use mathlib.Core.Option.{Option, none, some}
+use Prim.Native.Nat.{ℕ, zero, suc, suc-le-suc, _+_, _≤_, _<_}
+use native.Mathlib.Nat.{le-of-suc-le-suc}
+use native.Mathlib.Numerals.{add-one}
+use native.Mathlib.Omega.{arith}
+use borrow.Author.Tests.{leb-true, ltb-true, lt-ltb, le-ltb}
+use lib.Dec.{leb, ltb}
+use lib.ListN.{length, getD, drop, drop-of-length-le}
+use lib.Seq.{drop-cons}
+use Rattle.checks.specs.Search.{pick, firstFrom, firstNotBelow}
+use Rattle.checks.specs.Checks.{Check, Verdict, accepted, refused, verdict, both, within, isNone, allBelow}
+use Rattle.checks.specs.Answers.{checkedReading, refusalReading}
+use Rattle.checks.specs.declared.Refusal.{Refusal}
+use Rattle.checks.specs.declared.Checked.{Checked}
+use Rattle.checks.specs.declared.Checked.the-variants.{Passed, Failed}
+
+-- ---- a search that goes from element to element
+
+-- it came as far as position i
+unfoldable pub Searched : ℕ → List ℕ → ℕ → Type 0
+Searched limit l i = firstNotBelow limit l ≡ firstFrom limit i (drop i l)
+
+module _ (limit : ℕ) (l : List ℕ) where
+  pub search-begins : Searched limit l 0
+  unfolding Searched
+  search-begins = refl
+
+  pub search-passes : (i : ℕ) → i < length l → getD l i 0 < limit → Searched limit l i → Searched limit l (i + 1)
+  unfolding Searched firstFrom
+  search-passes i h s e = e ∙ ap (firstFrom limit i) (drop-cons l i 0 h) ∙ rw (lt-ltb (getD l i 0) limit s, add-one i)
+
+  pub search-finds : (i : ℕ) → i < length l → limit ≤ getD l i 0 → Searched limit l i → firstNotBelow limit l ≡ some i
+  unfolding Searched firstFrom
+  search-finds i h s e = e ∙ ap (firstFrom limit i) (drop-cons l i 0 h) ∙ rw (le-ltb (getD l i 0) limit s)
+
+  pub search-ends : (i : ℕ) → length l ≤ i → Searched limit l i → firstNotBelow limit l ≡ none
+  unfolding Searched firstFrom
+  search-ends i h e = e ∙ ap (firstFrom limit i) (drop-of-length-le l h)
+
+-- ---- what a search that finds nothing says
+
+module _ (limit : ℕ) where
+  pub found-none : (l : List ℕ) (s : ℕ) → isNone (firstFrom limit s l) ≡ true → (i : ℕ) → i < length l → getD l i 0 < limit
+  unfolding firstFrom
+  found-none [] s e i h = absurd (omega arith)
+  found-none (x ∷ l) s e i h = go (found-none l (suc s)) (ltb x limit) refl e i h
+    where
+      go : (isNone (firstFrom limit (suc s) l) ≡ true → (i : ℕ) → i < length l → getD l i 0 < limit) → (b : Bool) → ltb x limit ≡ b
+          → isNone (pick b (firstFrom limit (suc s) l) (some s)) ≡ true → (i : ℕ) → i < suc (length l) → getD (x ∷ l) i 0 < limit
+      go ih true d f zero h = ltb-true x limit d
+      go ih true d f (suc i) h = ih f i (le-of-suc-le-suc h)
+      go ih false d f i h = absurd (let z : _≡_ {A = ℕ} 0 1 = cc in omega arith)
+
+  pub none-found : (l : List ℕ) (s : ℕ) → ((i : ℕ) → i < length l → getD l i 0 < limit) → firstFrom limit s l ≡ none
+  unfolding firstFrom
+  none-found [] s h = refl
+  none-found (x ∷ l) s h = rw (lt-ltb x limit (h 0 (omega arith))) (none-found l (suc s) (λ i m. h (suc i) (suc-le-suc m)))
+
+pub within-true : (a b x : ℕ) → within a b x ≡ true → (a ≤ x) × (x ≤ b)
+within-true a b x h = go (leb a x) (leb x b) (leb-true a x) (leb-true x b) h
+  where
+    go : {A B : Type 0} (s t : Bool) → (s ≡ true → A) → (t ≡ true → B) → both s t ≡ true → A × B
+    go true t f g e = (f refl, g e)
+    go false t f g e = absurd (let z : _≡_ {A = ℕ} 0 1 = cc in omega arith)
+
+-- ---- one check after the other
+
+module _ {A : Type 0} (a : A) where
+  pub pass : (c : Check) (cs : List Check) → c .holds ≡ true → verdict (c ∷ cs) a ≡ verdict cs a
+  unfolding verdict
+  pass c cs h = rw h
+
+  pub fail : (c : Check) (cs : List Check) → c .holds ≡ false → verdict (c ∷ cs) a ≡ refused (c .code) (c .position)
+  unfolding verdict
+  fail c cs h = rw h
+
+  pub pass-none : (code limit : ℕ) (l : List ℕ) (cs : List Check) → firstNotBelow limit l ≡ none → verdict (allBelow code limit l ∷ cs) a ≡ verdict cs a
+  unfolding verdict
+  pass-none code limit l cs h = rw h
+
+  pub fail-some : (code limit : ℕ) (l : List ℕ) (cs : List Check) (i : ℕ) → firstNotBelow limit l ≡ some i → verdict (allBelow code limit l ∷ cs) a ≡ refused code i
+  unfolding verdict
+  fail-some code limit l cs i h = rw h
+
+  pub pass-all : verdict [] a ≡ accepted a
+  unfolding verdict
+  pass-all = refl
+
+-- ---- a whole list of checks
+
+-- every check holds
+abbrev pub Hold : List Check → Type 0
+Hold [] = Unit
+Hold (c ∷ cs) = (c .holds ≡ true) × Hold cs
+
+pub accepts : {A : Type 0} (a : A) (cs : List Check) → Hold cs → verdict cs a ≡ accepted a
+accepts a [] h = pass-all a
+accepts a (c ∷ cs) h = pass a c cs (h .0) ∙ accepts a cs (h .1)
+
+pub accepted-holds : {A : Type 0} (a b : A) (cs : List Check) → verdict cs a ≡ accepted b → Hold cs
+accepted-holds a b [] e = tt
+accepted-holds {A} a b (c ∷ cs) e = go (accepted-holds a b cs) (c .holds) refl
+  where
+    go : (verdict cs a ≡ accepted b → Hold cs) → (t : Bool) → c .holds ≡ t → Hold (c ∷ cs)
+    go ih true h = (h, ih (sym (pass a c cs h) ∙ e))
+    go ih false h =
+        let d : _≡_ {A = Verdict A} (refused (c .code) (c .position)) (accepted b) = sym (fail a c cs h) ∙ e in
+        absurd (let z : _≡_ {A = ℕ} 0 1 = cc in omega arith)
+
+-- a refusal does not depend on what the call would answer
+pub refuses : {A B : Type 0} (a : A) (b : B) (code position : ℕ) (cs : List Check) → verdict cs a ≡ refused code position → verdict cs b ≡ refused code position
+refuses {A} a b code position [] e =
+    let d : _≡_ {A = Verdict A} (accepted a) (refused code position) = sym (pass-all a) ∙ e in
+    absurd (let z : _≡_ {A = ℕ} 0 1 = cc in omega arith)
+refuses {A} {B} a b code position (c ∷ cs) e = go (refuses a b code position cs) (c .holds) refl
+  where
+    go : (verdict cs a ≡ refused code position → verdict cs b ≡ refused code position) → (t : Bool) → c .holds ≡ t → verdict (c ∷ cs) b ≡ refused code position
+    go ih true h = pass b c cs h ∙ ih (sym (pass a c cs h) ∙ e)
+    go ih false h =
+        let d : _≡_ {A = Verdict A} (refused (c .code) (c .position)) (refused code position) = sym (fail a c cs h) ∙ e in
+        let i : c .code ≡ code = cc in
+        let j : c .position ≡ position = cc in
+        fail b c cs h ∙ rw (i, j)
+
+-- ---- what a call learns from its checks
+
+module _ (cs : List Check) (r : Checked) (e : checkedReading r ≡ verdict cs tt) where
+  pub checks-hold : r ≡ Passed → Hold cs
+  checks-hold p = accepted-holds tt tt cs (sym e ∙ ap checkedReading p)
+
+  pub checks-passed : {A : Type 0} (a : A) → r ≡ Passed → verdict cs a ≡ accepted a
+  checks-passed a p = accepts a cs (checks-hold p)
+
+  pub checks-failed : {A : Type 0} (a : A) (f : Refusal) → r ≡ Failed f → verdict cs a ≡ refusalReading f
+  checks-failed a f p = refuses tt a (f .code) (f .position) cs (sym e ∙ ap checkedReading p)

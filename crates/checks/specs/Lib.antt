@@ -1,0 +1,4 @@
+pub mod Search
+pub mod Checks
+pub mod Answers
+pub mod Laws

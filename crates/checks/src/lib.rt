@@ -1,0 +1,154 @@
+// Why a call is refused, and the tests that several calls share.
+use residue::Word;
+ghost use mathlib.Core.Path.{_≡_};
+ghost use Prim.Native.Nat.{_*_, _^_, _≤_};
+ghost use lib.Dec.{ltb};
+ghost use lib.ListN.{length, take};
+ghost use Rattle.checks.specs.Search.{firstNotBelow};
+ghost use Rattle.checks.specs.Checks.{refused, within};
+ghost use Rattle.checks.specs.Answers.{foundReading, checkedReading};
+
+// Document 01's number for a refused call, and the position (its 'place') of what is unfit.
+pub struct Refusal {
+    pub code: u32,
+    pub position: usize,
+}
+
+// What a call answers that answers a count.
+pub enum Answer {
+    Done(usize),
+    Refused(Refusal),
+}
+
+// How the checks of a call end.
+pub enum Checked {
+    Passed,
+    Failed(Refusal),
+}
+
+// What a search finds.
+pub enum Found {
+    At(usize),
+    Nothing,
+}
+
+// n is not from 2 to 8.
+pub const SHARE_COUNT: u32 = 1;
+
+// k is not from 1 to 16.
+pub const STRING_LENGTH: u32 = 2;
+
+// q is too small.
+pub const MODULUS: u32 = 3;
+
+// The list of Boolean shares, of x where there are two, has not exactly n words.
+pub const X_COUNT: u32 = 4;
+
+// The list of the shares of y has not exactly n words.
+pub const Y_COUNT: u32 = 5;
+
+// A Boolean share, of x where there are two, has a bit at k or above.
+pub const X_WIDTH: u32 = 6;
+
+// A share of y has a bit at k or above.
+pub const Y_WIDTH: u32 = 7;
+
+// There are too few random words.
+pub const WORD_COUNT: u32 = 8;
+
+// A random word is not below q.
+pub const WORD_RANGE: u32 = 9;
+
+// The output is too short.
+pub const OUTPUT_ROOM: u32 = 10;
+
+// The work area is too short.
+pub const WORK_ROOM: u32 = 11;
+
+// An opened string has a bit at k or above.
+pub const VALUE_WIDTH: u32 = 12;
+
+// There are not exactly n - 1 masks.
+pub const MASK_COUNT: u32 = 13;
+
+// A mask has a bit at k or above.
+pub const MASK_WIDTH: u32 = 14;
+
+// The list of arithmetic shares has not exactly n words.
+pub const ARITHMETIC_COUNT: u32 = 15;
+
+// An arithmetic share is not below q.
+pub const ARITHMETIC_RANGE: u32 = 16;
+
+// An opened residue is not below q.
+pub const RESIDUE_RANGE: u32 = 17;
+
+// A lesson file has a mark that is not allowed where it stands.
+pub const MARK: u32 = 18;
+
+// A lesson file ends within a record or a sample.
+pub const CUT_SHORT: u32 = 19;
+
+// A lesson file's count of random words is above 1,792.
+pub const WORD_LIMIT: u32 = 20;
+
+// A lesson file has more than 60,000 bytes.
+pub const FILE_LENGTH: u32 = 21;
+
+// No published parameter set has this number.
+pub const SET_NUMBER: u32 = 22;
+
+pub fn refuse(code: u32, position: usize) -> Checked
+    ensures { λ r. ⌜ checkedReading r ≡ refused code position ⌝ }
+{
+    Checked::Failed(Refusal {
+        code: code,
+        position: position,
+    })
+}
+
+// low ≤ x ≤ high.
+pub fn within(low: usize, high: usize, x: usize) -> bool
+    ensures { λ r. ⌜ r ≡ within low high x ⌝ }
+{
+    if x < low { false } else { x <= high }
+}
+
+// No bit at k or above.
+pub fn is_narrow(value: u16, k: usize) -> bool
+    requires { ⌜ k ≤ 16 ⌝ }
+    ensures { λ r. ⌜ r ≡ ltb value (2 ^ k) ⌝ }
+{
+    (value as u32) < (1u32 << k)
+}
+
+// The first share with a bit at k or above.
+pub fn first_wide(shares: &[u16], k: usize) -> Found
+    requires { ⌜ k ≤ 16 ⌝ }
+    ensures { λ r. ⌜ foundReading r ≡ firstNotBelow (2 ^ k) (now (shares .entry)) ⌝ }
+{
+    for i in 0..shares.len() {
+        if !is_narrow(shares[i], k) {
+            return Found::At(i);
+        }
+    }
+    Found::Nothing
+}
+
+// The first of the words that is not below q, going over the bits and, within a bit, over its words.
+pub fn first_not_below(words: &[Word], bits: usize, per: usize, q: Word) -> Found
+    requires { ⌜ bits * per ≤ length (now words) ⌝ }
+    ensures { λ r. ⌜ foundReading r ≡ firstNotBelow q (take (bits * per) (now (words .entry))) ⌝ }
+{
+    let mut found = Found::Nothing;
+    'bits: for b in 0..bits {
+        for i in 0..per {
+            let at = b * per + i;
+            if words[at] >= q {
+                found = Found::At(at);
+                break 'bits;
+            }
+        }
+    }
+    found
+}
