@@ -1,7 +1,7 @@
 -- What document 01 says for each case of the answers in the code: the number and the position of a refusal, and the value of an accepted call.
 use mathlib.Core.Option.{Option, none, some}
 use Prim.Native.Nat.{ℕ}
-use Rattle.checks.specs.Checks.{Verdict, accepted, refused}
+use Rattle.checks.specs.Checks.{Verdict, accepted, refused, Outcome}
 use Rattle.checks.specs.declared.Refusal.{Refusal}
 use Rattle.checks.specs.declared.Answer.{Answer}
 use Rattle.checks.specs.declared.Answer.the-variants.{Done, Refused}
@@ -16,6 +16,10 @@ refusalReading r = refused (r .code) (r .position)
 abbrev pub answerReading : Answer → Verdict ℕ
 answerReading (Done count) = accepted count
 answerReading (Refused r) = refusalReading r
+
+-- of a call with buffers: its answer, and what they hold after it
+abbrev pub outcome : {B : Type 0} → Answer → B → Outcome ℕ B
+outcome a after = record { answer = answerReading a; buffers = after }
 
 abbrev pub checkedReading : Checked → Verdict Unit
 checkedReading Passed = accepted tt

@@ -1,11 +1,11 @@
 -- The checks (document 01: 'Questions put to a call'), and the verdict of a list of them. A call's checks are a list in the order of the page.
-use mathlib.Core.Bool.{Bool, true, false}
+use mathlib.Core.Bool.{Bool, true, false, cond, _&&_}
 use mathlib.Core.List.{List, [], _∷_}
 use mathlib.Core.Option.{Option, none, some}
 use Prim.Native.Nat.{ℕ, _^_}
 use lib.Dec.{leb, ltb, eqb}
 use lib.ListN.{length}
-use Rattle.checks.specs.Search.{pick, firstNotBelow}
+use Rattle.checks.specs.Search.{firstNotBelow}
 
 -- A check: whether it holds, and the number and the position (the page's 'place') of the refusal where it does not.
 pub record Check : Type 0 where
@@ -21,7 +21,7 @@ pub data Verdict (A : Type 0) : Type 0 where
 -- The first check that fails refuses; where none does, the call is accepted with its answer.
 unfoldable pub verdict : {A : Type 0} → List Check → A → Verdict A
 verdict [] a = accepted a
-verdict (c ∷ cs) a = pick (c .holds) (verdict cs a) (refused (c .code) (c .position))
+verdict (c ∷ cs) a = cond (c .holds) (verdict cs a) (refused (c .code) (c .position))
 
 -- What a call answers, and what its buffers hold after it.
 pub record Outcome (A B : Type 0) : Type 0 where
@@ -35,13 +35,9 @@ settled (refused c p) before after = record { answer = refused c p; buffers = be
 
 -- ---- the checks that several calls ask
 
-abbrev pub both : Bool → Bool → Bool
-both true b = b
-both false b = false
-
 -- a ≤ x ≤ b
 abbrev pub within : ℕ → ℕ → ℕ → Bool
-within a b x = both (leb a x) (leb x b)
+within a b x = leb a x && leb x b
 
 -- 1: n is from 2 to 8
 abbrev pub shareCount : ℕ → Check

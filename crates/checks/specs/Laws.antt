@@ -1,6 +1,6 @@
 -- Laws of searches, and of going through a list of checks.
 use mathlib.Core.Path.{_≡_, refl, sym, ap, _∙_}
-use mathlib.Core.Bool.{Bool, true, false}
+use mathlib.Core.Bool.{Bool, true, false, cond, _&&_}
 use mathlib.Core.List.{List, [], _∷_}
 use mathlib.Core.Option.{Option, none, some}
 use Prim.Native.Nat.{ℕ, zero, suc, suc-le-suc, _+_, _≤_, _<_}
@@ -11,8 +11,8 @@ use borrow.Author.Tests.{leb-true, ltb-true, lt-ltb, le-ltb}
 use lib.Dec.{leb, ltb}
 use lib.ListN.{length, getD, drop, drop-of-length-le}
 use lib.Seq.{drop-cons}
-use Rattle.checks.specs.Search.{pick, firstFrom, firstNotBelow}
-use Rattle.checks.specs.Checks.{Check, Verdict, accepted, refused, verdict, both, within, isNone, allBelow}
+use Rattle.checks.specs.Search.{firstFrom, firstNotBelow}
+use Rattle.checks.specs.Checks.{Check, Verdict, accepted, refused, verdict, settled, within, isNone, allBelow}
 use Rattle.checks.specs.Answers.{checkedReading, refusalReading}
 use Rattle.checks.specs.declared.Refusal.{Refusal}
 use Rattle.checks.specs.declared.Checked.{Checked}
@@ -50,7 +50,7 @@ module _ (limit : ℕ) where
   found-none (x ∷ l) s e i h = go (found-none l (suc s)) (ltb x limit) refl e i h
     where
       go : (isNone (firstFrom limit (suc s) l) ≡ true → (i : ℕ) → i < length l → getD l i 0 < limit) → (b : Bool) → ltb x limit ≡ b
-          → isNone (pick b (firstFrom limit (suc s) l) (some s)) ≡ true → (i : ℕ) → i < suc (length l) → getD (x ∷ l) i 0 < limit
+          → isNone (cond b (firstFrom limit (suc s) l) (some s)) ≡ true → (i : ℕ) → i < suc (length l) → getD (x ∷ l) i 0 < limit
       go ih true d f zero h = ltb-true x limit d
       go ih true d f (suc i) h = ih f i (le-of-suc-le-suc h)
       go ih false d f i h = absurd (let z : _≡_ {A = ℕ} 0 1 = cc in omega arith)
@@ -63,7 +63,7 @@ module _ (limit : ℕ) where
 pub within-true : (a b x : ℕ) → within a b x ≡ true → (a ≤ x) × (x ≤ b)
 within-true a b x h = go (leb a x) (leb x b) (leb-true a x) (leb-true x b) h
   where
-    go : {A B : Type 0} (s t : Bool) → (s ≡ true → A) → (t ≡ true → B) → both s t ≡ true → A × B
+    go : {A B : Type 0} (s t : Bool) → (s ≡ true → A) → (t ≡ true → B) → s && t ≡ true → A × B
     go true t f g e = (f refl, g e)
     go false t f g e = absurd (let z : _≡_ {A = ℕ} 0 1 = cc in omega arith)
 
@@ -125,6 +125,10 @@ refuses {A} {B} a b code position (c ∷ cs) e = go (refuses a b code position c
         let i : c .code ≡ code = cc in
         let j : c .position ≡ position = cc in
         fail b c cs h ∙ rw (i, j)
+
+pub settled-answer : {A B : Type 0} (v : Verdict A) (before after : B) → settled v before after .answer ≡ v
+settled-answer (accepted a) before after = refl
+settled-answer (refused c p) before after = refl
 
 -- ---- what a call learns from its checks
 

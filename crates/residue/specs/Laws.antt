@@ -121,6 +121,12 @@ module _ (q : ℕ) where
 
   -- ---- negatives
 
+  pub neg-small : (a : ℕ) → 0 < a → a < q → neg q a ≡ q - a
+  unfolding neg
+  neg-small a h l =
+      let m : q - a < q = omega arith in
+      rw (mod-eq-of-lt l) (mod-eq-of-lt m)
+
   module _ (pos : 0 < q) where
     pub reduce-lt : (a : ℕ) → reduce q a < q
     unfolding reduce

@@ -1,3 +1,4 @@
 pub mod Residue
 pub mod Laws
 pub mod Sum
+pub mod Integers

@@ -1,5 +1,8 @@
 -- Arithmetic modulo q. Every operation reduces its result, so that its laws hold for all operands, below q or not.
-use Prim.Native.Nat.{ℕ, _+_, _-_, _*_, _%_}
+use mathlib.Core.List.{List}
+use Prim.Native.Nat.{ℕ, suc, _+_, _-_, _*_, _%_, _<_}
+use lib.IntN.{ℤ, pos, negsuc}
+use lib.ListN.{length, getD}
 
 module _ (q : ℕ) where
   unfoldable pub reduce : ℕ → ℕ
@@ -16,3 +19,12 @@ module _ (q : ℕ) where
 
   abbrev pub sub : ℕ → ℕ → ℕ
   sub a b = add a (neg b)
+
+  -- an integer modulo q
+  unfoldable pub reduceℤ : ℤ → ℕ
+  reduceℤ (pos a) = reduce a
+  reduceℤ (negsuc a) = neg (suc a)
+
+  -- every number of the list is a residue: below q
+  abbrev pub Residues : List ℕ → Type 0
+  Residues l = (i : ℕ) → i < length l → getD l i 0 < q

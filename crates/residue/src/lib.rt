@@ -2,7 +2,7 @@
 // Every cast to or from Word stands here.
 ghost use mathlib.Core.Path.{_≡_};
 ghost use Prim.Native.Nat.{_+_, _^_, _≤_, _<_};
-ghost use lib.IntN.{pos};
+ghost use lib.IntN.{pos, _-ℤ_};
 ghost use Rattle.residue.specs.Residue.{add, sub};
 
 // The type of a modulus, a random word and an arithmetic share.
@@ -54,9 +54,10 @@ pub fn to_usize(x: Word) -> usize
     x as usize
 }
 
-pub fn to_i32(x: Word) -> i32
-    requires { ⌜ x < 2 ^ 31 ⌝ }
-    ensures { λ r. ⌜ r ≡ pos x ⌝ }
+// a - b, with its sign.
+pub fn difference(a: Word, b: Word) -> i32
+    requires { ⌜ (a < 2 ^ 31) × (b < 2 ^ 31) ⌝ }
+    ensures { λ r. ⌜ r ≡ pos a -ℤ pos b ⌝ }
 {
-    x as i32
+    (a as i32) - (b as i32)
 }

@@ -1,10 +1,10 @@
--- The 32-bit difference is right by proofs/Difference.antt; what is left is that nothing overflows 64 bits.
+-- The 32-bit difference is right by proofs/Wrapped.antt; what is left is that nothing overflows 64 bits.
 use mathlib.Core.Path.{_∙_}
 use Prim.Native.Nat.{_+_, _*_, _/_, _^_}
 use native.Mathlib.Omega.{arith}
 use lib.Bits.{and-mask, mask-lt}
 use borrow.Author.Needs.{needs}
-use Rattle.residue.proofs.Difference.{difference, d-lt, added-le, value}
+use Rattle.residue.proofs.Wrapped.{difference, d-lt, added-le, value}
 use Rattle.residue.proofs.sub.Statement.{statement}
 use Rattle.residue.proofs.sub.Tie as tie
 

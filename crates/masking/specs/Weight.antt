@@ -1,0 +1,38 @@
+-- The count of ones of a number is the sum of its bits.
+use mathlib.Core.Path.{_≡_, refl, sym, ap, _∙_}
+use Prim.Native.Nat.{ℕ, zero, suc, _+_, _/_, _%_, _^_, _<_, _≤_}
+use native.Mathlib.Nat.{div-one}
+use native.Mathlib.Omega.{arith}
+use lib.Count.{ones, ones-step, ones-le}
+use lib.Pow.{shr-shr, pow-mono}
+use Rattle.masking.specs.Signed.{bit, bitSum, weight}
+
+-- bit i + 1 is bit i of the half
+bit-half : (x i : ℕ) → bit x (suc i) ≡ bit (x / 2) i
+bit-half x i =
+    let e : 1 + i ≡ suc i = omega arith in
+    ap (λ (m : ℕ). m % 2) (sym (shr-shr x 1 i ∙ ap (λ (m : ℕ). x / 2 ^ m) e))
+
+-- the lowest bit, and those of the half
+bitSum-half : (k x : ℕ) → bitSum (suc k) x ≡ x % 2 + bitSum k (x / 2)
+unfolding bitSum
+bitSum-half zero x = omega (arith, div-one x)
+bitSum-half (suc k) x = omega (arith, bitSum-half k x, bit-half x k)
+
+pub ones-bits : (k x : ℕ) → x < 2 ^ k → ones x ≡ bitSum k x
+unfolding bitSum ones
+ones-bits zero x h =
+    let e : x ≡ 0 = omega arith in
+    ap ones e
+ones-bits (suc k) x h = ones-step x ∙ ap (λ (m : ℕ). x % 2 + m) (ones-bits k (x / 2) (omega arith)) ∙ sym (bitSum-half k x)
+
+module _ (k x : ℕ) (l : k ≤ 16) (h : x < 2 ^ k) where
+  -- a string of k bits has its weight in them
+  pub ones-weight : ones x ≡ weight x
+  ones-weight = ones-bits 16 x (omega (arith, pow-mono l))
+
+  pub weight-bits : weight x ≡ bitSum k x
+  weight-bits = sym ones-weight ∙ ones-bits k x h
+
+  pub weight-le : weight x ≤ k
+  weight-le = rw (← ones-weight) (ones-le k x h)

@@ -1,0 +1,59 @@
+-- Laws of the XOR of numbers and of lists.
+use mathlib.Core.Path.{_≡_, refl, sym, ap, _∙_}
+use mathlib.Core.List.{List, [], _∷_, _++_}
+use Prim.Native.Nat.{ℕ, zero, suc, suc-le-suc, _+_, _-_, _/_, _%_, _^_, _<_}
+use native.Mathlib.Omega.{arith}
+use lib.Arith.{bin-ind}
+use lib.Bits.{bitXor, xor-add-and, xor-shr, xor-comm, xor-self, xor-zero-r, xor-lt}
+use lib.ListN.{length, getD, take, drop, take-append-drop}
+use lib.Pow.{pow-pos}
+use Rattle.residue.specs.Residue.{reduce, add, Residues}
+use Rattle.residue.specs.Laws.{add-assoc, add-reduce-left, add-reduce-right}
+use Rattle.masking.specs.Sharing.{xorAll}
+
+pub xor-half : (a b : ℕ) → bitXor a b / 2 ≡ bitXor (a / 2) (b / 2)
+xor-half a b = xor-shr a b 1
+
+-- the lowest bit of the XOR is that of the sum
+pub xor-parity : (a b : ℕ) → reduce 2 (bitXor a b) ≡ add 2 a b
+unfolding reduce add
+xor-parity a b = omega (arith, xor-add-and a b)
+
+pub xor-assoc : (a b c : ℕ) → bitXor (bitXor a b) c ≡ bitXor a (bitXor b c)
+xor-assoc = bin-ind (λ (a : ℕ). (b c : ℕ) → bitXor (bitXor a b) c ≡ bitXor a (bitXor b c)) (λ b c. refl) step
+  where
+    lowest : (a b c : ℕ) → reduce 2 (bitXor (bitXor a b) c) ≡ reduce 2 (bitXor a (bitXor b c))
+    lowest a b c =
+        xor-parity (bitXor a b) c
+        ∙ rw (← add-reduce-left 2 (bitXor a b) c, xor-parity a b, add-assoc, ← xor-parity b c, add-reduce-right 2 a (bitXor b c)) (sym (xor-parity a (bitXor b c)))
+
+    join : (x y : ℕ) → x / 2 ≡ y / 2 → reduce 2 x ≡ reduce 2 y → x ≡ y
+    join x y e f = unfold reduce in omega arith
+
+    step : (a : ℕ) → ((b c : ℕ) → bitXor (bitXor (a / 2) b) c ≡ bitXor (a / 2) (bitXor b c)) → (b c : ℕ) → bitXor (bitXor a b) c ≡ bitXor a (bitXor b c)
+    step a ih b c = join (bitXor (bitXor a b) c) (bitXor a (bitXor b c)) (simp xor-half (ih (b / 2) (c / 2))) (lowest a b c)
+
+-- XORed twice, a number comes back
+pub xor-twice : (a b : ℕ) → bitXor b (bitXor a b) ≡ a
+xor-twice a b = xor-comm b (bitXor a b) ∙ xor-assoc a b b ∙ ap (bitXor a) (xor-self b) ∙ xor-zero-r a
+
+-- ---- lists
+
+pub xorAll-append : (a b : List ℕ) → xorAll (a ++ b) ≡ bitXor (xorAll a) (xorAll b)
+unfolding xorAll
+xorAll-append [] b = refl
+xorAll-append (x ∷ a) b = ap (bitXor x) (xorAll-append a b) ∙ sym (xor-assoc x (xorAll a) (xorAll b))
+
+pub xorAll-one : (x : ℕ) → xorAll (x ∷ []) ≡ x
+unfolding xorAll
+xorAll-one x = xor-zero-r x
+
+-- a list is opened by its parts
+pub xorAll-split : (h : ℕ) (l : List ℕ) → bitXor (xorAll (take h l)) (xorAll (drop h l)) ≡ xorAll l
+xorAll-split h l = sym (xorAll-append (take h l) (drop h l)) ∙ ap xorAll (take-append-drop h l)
+
+-- the XOR of numbers of k bits has k bits
+pub xorAll-lt : (k : ℕ) (l : List ℕ) → Residues (2 ^ k) l → xorAll l < 2 ^ k
+unfolding xorAll
+xorAll-lt k [] h = pow-pos k
+xorAll-lt k (x ∷ l) h = xor-lt k x (xorAll l) (h 0 (omega arith)) (xorAll-lt k l (λ i m. h (suc i) (suc-le-suc m)))
