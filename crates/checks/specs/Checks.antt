@@ -23,6 +23,10 @@ unfoldable pub verdict : {A : Type 0} → List Check → A → Verdict A
 verdict [] a = accepted a
 verdict (c ∷ cs) a = cond (c .holds) (verdict cs a) (refused (c .code) (c .position))
 
+-- The verdict of the checks alone.
+abbrev pub checked : List Check → Verdict Unit
+checked cs = verdict cs tt
+
 -- What a call answers, and what its buffers hold after it.
 pub record Outcome (A B : Type 0) : Type 0 where
   pub answer : Verdict A

@@ -1,22 +1,24 @@
 -- Laws of searches, and of going through a list of checks.
 use mathlib.Core.Path.{_≡_, refl, sym, ap, _∙_}
-use mathlib.Core.Bool.{Bool, true, false, cond, _&&_}
+use mathlib.Core.Bool.{Bool, true, false, cond, not, _&&_}
 use mathlib.Core.List.{List, [], _∷_}
 use mathlib.Core.Option.{Option, none, some}
 use Prim.Native.Nat.{ℕ, zero, suc, suc-le-suc, _+_, _≤_, _<_}
 use native.Mathlib.Nat.{le-of-suc-le-suc}
 use native.Mathlib.Numerals.{add-one}
 use native.Mathlib.Omega.{arith}
-use borrow.Author.Tests.{leb-true, ltb-true, lt-ltb, le-ltb}
+use borrow.Author.Tests.{leb-true, ltb-true, lt-ltb, le-ltb, not-true, not-false}
 use lib.Dec.{leb, ltb}
 use lib.ListN.{length, getD, drop, drop-of-length-le}
 use lib.Seq.{drop-cons}
 use Rattle.checks.specs.Search.{firstFrom, firstNotBelow}
-use Rattle.checks.specs.Checks.{Check, Verdict, accepted, refused, verdict, settled, within, isNone, allBelow}
-use Rattle.checks.specs.Answers.{checkedReading, refusalReading}
+use Rattle.checks.specs.Checks.{Check, Verdict, accepted, refused, verdict, checked, settled, within, isNone, allBelow}
+use Rattle.checks.specs.Answers.{checkedReading, refusalReading, foundReading}
 use Rattle.checks.specs.declared.Refusal.{Refusal}
 use Rattle.checks.specs.declared.Checked.{Checked}
 use Rattle.checks.specs.declared.Checked.the-variants.{Passed, Failed}
+use Rattle.checks.specs.declared.Found.{Found}
+use Rattle.checks.specs.declared.Found.the-variants.{At, Nothing}
 
 -- ---- a search that goes from element to element
 
@@ -90,6 +92,24 @@ module _ {A : Type 0} (a : A) where
   unfolding verdict
   pass-all = refl
 
+-- the first j checks held
+abbrev pub Past : List Check → ℕ → Type 0
+Past cs j = checked cs ≡ checked (drop j cs)
+
+-- ---- what the code's own test or search says
+
+pub test-holds : {r t : Bool} → r ≡ t → not r ≡ false → t ≡ true
+test-holds {r} e n = sym e ∙ not-false r n
+
+pub test-fails : {r t : Bool} → r ≡ t → not r ≡ true → t ≡ false
+test-fails {r} e n = sym e ∙ not-true r n
+
+pub search-none : {f : Found} {o : Option ℕ} → foundReading f ≡ o → f ≡ Nothing → o ≡ none
+search-none e g = sym e ∙ ap foundReading g
+
+pub search-some : {f : Found} {o : Option ℕ} {i : ℕ} → foundReading f ≡ o → f ≡ At i → o ≡ some i
+search-some e g = sym e ∙ ap foundReading g
+
 -- ---- a whole list of checks
 
 -- every check holds
@@ -132,7 +152,7 @@ settled-answer (refused c p) before after = refl
 
 -- ---- what a call learns from its checks
 
-module _ (cs : List Check) (r : Checked) (e : checkedReading r ≡ verdict cs tt) where
+module _ (cs : List Check) (r : Checked) (e : checkedReading r ≡ checked cs) where
   pub checks-hold : r ≡ Passed → Hold cs
   checks-hold p = accepted-holds tt tt cs (sym e ∙ ap checkedReading p)
 

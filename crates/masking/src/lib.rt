@@ -6,12 +6,12 @@ use checks::Found;
 use checks::Refusal;
 use residue::Word;
 ghost use mathlib.Core.Path.{_≡_};
-ghost use Prim.Native.Nat.{_<_, _≤_};
+ghost use Prim.Native.Nat.{_^_, _<_};
 ghost use lib.ListN.{length};
 ghost use Rattle.residue.specs.Residue.{reduce, Residues};
 ghost use Rattle.residue.specs.Sum.{total};
 ghost use Rattle.buffers.specs.Overwrite.{overwrite};
-ghost use Rattle.checks.specs.Checks.{verdict};
+ghost use Rattle.checks.specs.Checks.{checked};
 ghost use Rattle.checks.specs.Answers.{checkedReading, outcome};
 ghost use Rattle.masking.specs.Sharing.{xorAll, maskShares, maskChecks, masked, openStringChecks, openedString, openResidueChecks, openedResidue};
 ghost use Rattle.masking.specs.Signed.{centredValue, centreChecks, centred, weight, weightChecks, weightDifference};
@@ -51,7 +51,7 @@ pub enum SetAnswer {
 }
 
 fn check_mask(n: usize, k: usize, value: u16, masks: &[u16], room: usize) -> Checked
-    ensures { λ r. ⌜ checkedReading r ≡ verdict (maskChecks n k value (now (masks .entry)) room) tt ⌝ }
+    ensures { λ r. ⌜ checkedReading r ≡ checked (maskChecks n k value (now (masks .entry)) room) ⌝ }
 {
     if !checks::within(2, 8, n) {
         return checks::refuse(checks::SHARE_COUNT, 0);
@@ -98,7 +98,7 @@ pub fn mask(n: usize, k: usize, value: OpenedString, masks: &[u16], out: &mut [u
 }
 
 fn check_open_string(n: usize, k: usize, shares: &[u16]) -> Checked
-    ensures { λ r. ⌜ checkedReading r ≡ verdict (openStringChecks n k (now (shares .entry))) tt ⌝ }
+    ensures { λ r. ⌜ checkedReading r ≡ checked (openStringChecks n k (now (shares .entry))) ⌝ }
 {
     if !checks::within(2, 8, n) {
         return checks::refuse(checks::SHARE_COUNT, 0);
@@ -142,7 +142,7 @@ pub fn open_string(n: usize, k: usize, shares: &[u16]) -> StringAnswer
 }
 
 fn check_open_residue(n: usize, q: Word, shares: &[Word]) -> Checked
-    ensures { λ r. ⌜ checkedReading r ≡ verdict (openResidueChecks n q (now (shares .entry))) tt ⌝ }
+    ensures { λ r. ⌜ checkedReading r ≡ checked (openResidueChecks n q (now (shares .entry))) ⌝ }
 {
     if !checks::within(2, 8, n) {
         return checks::refuse(checks::SHARE_COUNT, 0);
@@ -161,7 +161,7 @@ fn check_open_residue(n: usize, q: Word, shares: &[Word]) -> Checked
 
 // The sum of a list modulo q, by the same rule as the XOR.
 fn sum_all(list: &[Word], q: Word) -> Word
-    requires { ⌜ (0 < length (now list)) × (0 < q) × Residues q (now list) ⌝ }
+    requires { ⌜ (0 < length (now list)) × (0 < q) × (q < 2 ^ 31) × Residues q (now list) ⌝ }
     ensures { λ r. ⌜ r ≡ reduce q (total (now (list .entry))) ⌝ }
 {
     let n = list.len();
@@ -169,9 +169,9 @@ fn sum_all(list: &[Word], q: Word) -> Word
         return list[0];
     }
     let half = n / 2;
-    let a = residue::widen(sum_all(&list[..half], q));
-    let b = residue::widen(sum_all(&list[half..], q));
-    residue::narrow(residue::add(a, b, residue::widen(q)), q)
+    let a = sum_all(&list[..half], q);
+    let b = sum_all(&list[half..], q);
+    residue::add_words(a, b, q)
 }
 
 // Opens an arithmetic sharing: the sum of its n shares modulo q.
@@ -186,7 +186,7 @@ pub fn open_residue(n: usize, q: Word, shares: &[Word]) -> ResidueAnswer
 }
 
 fn check_centre(q: Word, r: Word) -> Checked
-    ensures { λ c. ⌜ checkedReading c ≡ verdict (centreChecks q r) tt ⌝ }
+    ensures { λ c. ⌜ checkedReading c ≡ checked (centreChecks q r) ⌝ }
 {
     if q < 3 {
         return checks::refuse(checks::MODULUS, 0);
@@ -221,7 +221,7 @@ pub fn centre(q: Word, opened: OpenedResidue) -> SignedAnswer
 }
 
 fn check_weights(k: usize, x: u16, y: u16) -> Checked
-    ensures { λ r. ⌜ checkedReading r ≡ verdict (weightChecks k x y) tt ⌝ }
+    ensures { λ r. ⌜ checkedReading r ≡ checked (weightChecks k x y) ⌝ }
 {
     if !checks::within(1, 16, k) {
         return checks::refuse(checks::STRING_LENGTH, 0);

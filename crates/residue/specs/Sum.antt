@@ -4,8 +4,9 @@ use mathlib.Core.List.{List, [], _∷_, _++_}
 use Prim.Native.Nat.{ℕ, zero, suc, _+_, _<_, suc-le-suc}
 use native.Mathlib.Nat as N
 use native.Mathlib.Omega.{arith}
-use lib.ListN.{length, getD}
-use Rattle.residue.specs.Residue.{reduce, add, mul, neg}
+use lib.ListN.{length, getD, take, drop, length-take, length-drop, take-append-drop}
+use lib.Seq.{getD-take, getD-drop}
+use Rattle.residue.specs.Residue.{reduce, add, mul, neg, Residues}
 use Rattle.residue.specs.Laws.{reduce-zero, reduce-reduce, reduce-plus, reduce-add, add-reduce-left, add-reduce-right, add-comm, add-assoc, add-left-comm, zero-add, add-zero, mul-add, mul-zero, neg-zero, neg-add}
 
 -- the sum of a list of numbers, not reduced
@@ -17,6 +18,25 @@ pub total-append : (a b : List ℕ) → total (a ++ b) ≡ total a + total b
 unfolding total
 total-append [] b = sym (N.zero-add (total b))
 total-append (x ∷ a) b = omega (arith, total-append a b)
+
+pub total-one : (a : ℕ) → total (a ∷ []) ≡ a
+unfolding total
+total-one a = N.add-zero a
+
+-- ---- a list in two parts
+
+module _ (q h : ℕ) (l : List ℕ) where
+  pub residues-take : Residues q l → Residues q (take h l)
+  residues-take r i m = rw (getD-take h l i 0 (omega (arith, length-take h l))) (r i (omega (arith, length-take h l)))
+
+  pub residues-drop : Residues q l → Residues q (drop h l)
+  residues-drop r i m = rw (getD-drop h l i 0) (r (h + i) (omega (arith, length-drop h l)))
+
+  pub total-split : add q (reduce q (total (take h l))) (reduce q (total (drop h l))) ≡ reduce q (total l)
+  total-split =
+      rw (add-reduce-left, add-reduce-right) (sym (reduce-plus q (total (take h l)) (total (drop h l))) ∙ ap (reduce q) (sym (total-append (take h l) (drop h l)) ∙ ap total (take-append-drop h l)))
+
+-- ---- over an index
 
 module _ (q : ℕ) where
   -- f 0 + .. + f (n - 1)

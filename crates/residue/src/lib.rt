@@ -42,6 +42,14 @@ pub fn narrow(x: Wide, q: Word) -> Word
     x as Word
 }
 
+// (a + b) mod q, on words.
+pub fn add_words(a: Word, b: Word, q: Word) -> Word
+    requires { ⌜ (a < q) × (b < q) × (q < 2 ^ 31) ⌝ }
+    ensures { λ r. ⌜ r ≡ add q a b ⌝ }
+{
+    narrow(add(widen(a), widen(b), widen(q)), q)
+}
+
 pub fn from_u16(x: u16) -> Word
     ensures { λ r. ⌜ r ≡ x ⌝ }
 {

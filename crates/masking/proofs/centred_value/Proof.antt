@@ -3,7 +3,7 @@ use Rattle.masking.proofs.centred_value.Statement.{statement}
 use Rattle.masking.proofs.centred_value.Tie as tie
 use Rattle.masking.proofs.centred_value.Reads as reads
 use Rattle.masking.proofs.centred_value.Lts as lts
-use Rattle.residue.proofs.to_i32.Reads as to-i32-reads
+use Rattle.residue.proofs.difference.Reads as difference-reads
 use Rattle.residue.proofs.widen.Reads as widen-reads
 
 -- src/lib.rt:204:12
@@ -19,20 +19,12 @@ widen-requires-2 : tie.Need-widen-requires-2
 widen-requires-2 c κs = search needs
 
 -- src/lib.rt:205:9
-to-i32-requires : tie.Need-to-i32-requires
-to-i32-requires c κs = search needs
+difference-requires : tie.Need-difference-requires
+difference-requires c κs = search needs
 
 -- src/lib.rt:207:9
-to-i32-requires-2 : tie.Need-to-i32-requires-2
-to-i32-requires-2 c κs = search needs
-
--- src/lib.rt:207:30
-to-i32-requires-3 : tie.Need-to-i32-requires-3
-to-i32-requires-3 c κs = search needs
-
--- src/lib.rt:207:9
-sub-result : tie.Need-sub-result
-sub-result c = ?
+difference-requires-2 : tie.Need-difference-requires-2
+difference-requires-2 c κs = search needs
 
 -- src/lib.rt:200:1
 returns : tie.Need-returns
@@ -49,9 +41,7 @@ centred-value-spec =
     widen-requires
     mul-if1
     widen-requires-2
-    to-i32-requires
-    to-i32-requires-2
-    to-i32-requires-3
-    sub-result
+    difference-requires
+    difference-requires-2
     returns
     returns-2)

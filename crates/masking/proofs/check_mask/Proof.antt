@@ -1,91 +1,100 @@
+-- One answer for each check: those before it held, and it fails.
+use mathlib.Core.Path.{sym, _∙_}
+use mathlib.Core.List.{List}
+use Prim.Native.Nat.{_≤_}
+use native.Mathlib.Omega.{arith}
+use borrow.Author.Tests.{le-leb, lt-leb, eq-eqb, ne-eqb}
 use borrow.Author.Needs.{needs}
+use Rattle.checks.specs.Checks.{Check}
+use Rattle.checks.specs.Laws.{Past, pass, fail, pass-none, fail-some, pass-all, test-holds, test-fails, search-none, search-some, within-true}
+use Rattle.masking.specs.Sharing.{maskChecks}
 use Rattle.masking.proofs.check_mask.Statement.{statement}
 use Rattle.masking.proofs.check_mask.Tie as tie
-use Rattle.masking.proofs.check_mask.Reads as reads
-use Rattle.masking.proofs.check_mask.Lts as lts
-use Rattle.checks.proofs.first_wide.Reads as first-wide-reads
-use Rattle.checks.proofs.is_narrow.Reads as is-narrow-reads
-use Rattle.checks.proofs.refuse.Reads as refuse-reads
-use Rattle.checks.proofs.within.Reads as within-reads
 
--- src/lib.rt:56:9
+abbrev asked : tie.Start → List Check
+asked s = maskChecks (s .args .n) (s .args .k) (s .args .value) (s .args .masks .now) (s .args .room)
+
+past1 : (c : tie.Else1) → Past (asked (c .before .before .before)) 1
+past1 c = pass tt _ _ (test-holds (c .before .within .ensures) (c .if1 .left))
+
+past2 : (c : tie.Else2) → Past (asked (c .before .before .before .before .before)) 2
+past2 c = past1 (c .before .before) ∙ pass tt _ _ (test-holds (c .before .within2 .ensures) (c .if2 .left))
+
+past3 : (c : tie.Else3) → Past (asked (c .before .before .before .before .before .before .before)) 3
+past3 c = past2 (c .before .before) ∙ pass tt _ _ (test-holds (c .before .is-narrow .ensures) (c .if3 .left))
+
+past4 : (c : tie.Else4) → Past (asked (c .before .before .before .before .before .before .before .before)) 4
+past4 c = past3 (c .before) ∙ pass tt _ _ (eq-eqb _ _ (c .if4 .left))
+
+past5 : (c : tie.After-enum-told) → Past (asked (c .before .before .before .before .before .before .before .before .before .before .before)) 5
+past5 c = past4 (c .before .before .before) ∙ pass-none tt _ _ _ _ (search-none (c .before .before .first-wide .ensures) (c .enum-told .given .1))
+
+past6 : (c : tie.Else5) → Past (asked (c .before .before .before .before .before .before .before .before .before .before .before .before)) 6
+past6 c = past5 (c .before) ∙ pass tt _ _ (le-leb _ _ (c .if5 .left))
+
+-- check 2 held
+k-at-most : (c : tie.Else2) → c .before .before .before .before .before .args .k ≤ 16
+k-at-most c = within-true 1 16 (c .before .before .before .before .before .args .k) (test-holds (c .before .within2 .ensures) (c .if2 .left)) .1
+
 within-requires : tie.Need-within-requires
 within-requires c κs = search needs
 
--- src/lib.rt:57:9
 refuse-requires : tie.Need-refuse-requires
 refuse-requires c κs = search needs
 
--- src/lib.rt:57:9
 returns : tie.Need-returns
-returns c = ?
+returns c = c .refuse .ensures ∙ sym (fail tt _ _ (test-fails (c .before .before .within .ensures) (c .before .if1 .taken)))
 
--- src/lib.rt:59:9
 within-requires-2 : tie.Need-within-requires-2
 within-requires-2 c κs = search needs
 
--- src/lib.rt:60:9
 refuse-requires-2 : tie.Need-refuse-requires-2
 refuse-requires-2 c κs = search needs
 
--- src/lib.rt:60:9
 returns-2 : tie.Need-returns-2
-returns-2 c = ?
+returns-2 c = c .refuse2 .ensures ∙ sym (past1 (c .before .before .before) ∙ fail tt _ _ (test-fails (c .before .before .within2 .ensures) (c .before .if2 .taken)))
 
--- src/lib.rt:62:9
 is-narrow-requires : tie.Need-is-narrow-requires
-is-narrow-requires c κs = ?
+is-narrow-requires c κs = k-at-most c
 
--- src/lib.rt:63:9
 refuse-requires-3 : tie.Need-refuse-requires-3
 refuse-requires-3 c κs = search needs
 
--- src/lib.rt:63:9
 returns-3 : tie.Need-returns-3
-returns-3 c = ?
+returns-3 c = c .refuse3 .ensures ∙ sym (past2 (c .before .before .before) ∙ fail tt _ _ (test-fails (c .before .before .is-narrow .ensures) (c .before .if3 .taken)))
 
--- src/lib.rt:65:23
 sub-if4 : tie.Need-sub-if4
-sub-if4 c = ?
+sub-if4 c = omega (arith, within-true 2 8 (c .before .before .before .before .before .before .before .args .n) (test-holds (c .before .before .before .before .before .within .ensures) (c .before .before .before .before .if1 .left)))
 
--- src/lib.rt:66:9
 refuse-requires-4 : tie.Need-refuse-requires-4
 refuse-requires-4 c κs = search needs
 
--- src/lib.rt:66:9
 returns-4 : tie.Need-returns-4
-returns-4 c = ?
+returns-4 c = c .refuse4 .ensures ∙ sym (past3 (c .before .before) ∙ fail tt _ _ (ne-eqb _ _ (c .before .if4 .taken)))
 
--- src/lib.rt:68:27
 first-wide-requires : tie.Need-first-wide-requires
-first-wide-requires c κs = ?
+first-wide-requires c κs = k-at-most (c .before .before .before)
 
--- src/lib.rt:68:22
 enum-known-i : tie.Need-enum-known-i
 enum-known-i c = search needs
 
--- src/lib.rt:69:9
 refuse-requires-5 : tie.Need-refuse-requires-5
 refuse-requires-5 c κs = search needs
 
--- src/lib.rt:69:9
 returns-5 : tie.Need-returns-5
-returns-5 c = ?
+returns-5 c = c .refuse5 .ensures ∙ sym (past4 (c .before .before .before .before .before) ∙ fail-some tt _ _ _ _ _ (search-some (c .before .before .before .before .first-wide .ensures) (c .before .before .i .given .1)))
 
 enum-told : tie.Need-enum-told
 enum-told c = search needs
 
--- src/lib.rt:72:9
 refuse-requires-6 : tie.Need-refuse-requires-6
 refuse-requires-6 c κs = search needs
 
--- src/lib.rt:72:9
 returns-6 : tie.Need-returns-6
-returns-6 c = ?
+returns-6 c = c .refuse6 .ensures ∙ sym (past5 (c .before .before) ∙ fail tt _ _ (lt-leb _ _ (c .before .if5 .taken)))
 
--- src/lib.rt:53:1
 returns-7 : tie.Need-returns-7
-returns-7 c = ?
+returns-7 c = sym (past6 c ∙ pass-all tt)
 
 pub check-mask-spec : {M : Type 1} → statement M
 check-mask-spec =

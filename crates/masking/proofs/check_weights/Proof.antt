@@ -1,51 +1,59 @@
+-- One answer for each check: those before it held, and it fails.
+use mathlib.Core.Path.{sym, _∙_}
+use mathlib.Core.List.{List}
+use Prim.Native.Nat.{_≤_}
 use borrow.Author.Needs.{needs}
+use Rattle.checks.specs.Checks.{Check}
+use Rattle.checks.specs.Laws.{Past, pass, fail, pass-all, test-holds, test-fails, within-true}
+use Rattle.masking.specs.Signed.{weightChecks}
 use Rattle.masking.proofs.check_weights.Statement.{statement}
 use Rattle.masking.proofs.check_weights.Tie as tie
-use Rattle.masking.proofs.check_weights.Reads as reads
-use Rattle.masking.proofs.check_weights.Lts as lts
-use Rattle.checks.proofs.is_narrow.Reads as is-narrow-reads
-use Rattle.checks.proofs.refuse.Reads as refuse-reads
-use Rattle.checks.proofs.within.Reads as within-reads
 
--- src/lib.rt:226:9
+abbrev asked : tie.Start → List Check
+asked s = weightChecks (s .args .k) (s .args .x) (s .args .y)
+
+past1 : (c : tie.Else1) → Past (asked (c .before .before)) 1
+past1 c = pass tt _ _ (test-holds (c .before .within .ensures) (c .if1 .left))
+
+past2 : (c : tie.Else2) → Past (asked (c .before .before .before .before)) 2
+past2 c = past1 (c .before .before) ∙ pass tt _ _ (test-holds (c .before .is-narrow .ensures) (c .if2 .left))
+
+past3 : (c : tie.Else3) → Past (asked (c .before .before .before .before .before .before)) 3
+past3 c = past2 (c .before .before) ∙ pass tt _ _ (test-holds (c .before .is-narrow2 .ensures) (c .if3 .left))
+
+-- check 2 held
+k-at-most : (c : tie.Else1) → c .before .before .args .k ≤ 16
+k-at-most c = within-true 1 16 (c .before .before .args .k) (test-holds (c .before .within .ensures) (c .if1 .left)) .1
+
 within-requires : tie.Need-within-requires
 within-requires c κs = search needs
 
--- src/lib.rt:227:9
 refuse-requires : tie.Need-refuse-requires
 refuse-requires c κs = search needs
 
--- src/lib.rt:227:9
 returns : tie.Need-returns
-returns c = ?
+returns c = c .refuse .ensures ∙ sym (fail tt _ _ (test-fails (c .before .before .within .ensures) (c .before .if1 .taken)))
 
--- src/lib.rt:229:9
 is-narrow-requires : tie.Need-is-narrow-requires
-is-narrow-requires c κs = ?
+is-narrow-requires c κs = k-at-most c
 
--- src/lib.rt:230:9
 refuse-requires-2 : tie.Need-refuse-requires-2
 refuse-requires-2 c κs = search needs
 
--- src/lib.rt:230:9
 returns-2 : tie.Need-returns-2
-returns-2 c = ?
+returns-2 c = c .refuse2 .ensures ∙ sym (past1 (c .before .before .before) ∙ fail tt _ _ (test-fails (c .before .before .is-narrow .ensures) (c .before .if2 .taken)))
 
--- src/lib.rt:232:9
 is-narrow-requires-2 : tie.Need-is-narrow-requires-2
-is-narrow-requires-2 c κs = ?
+is-narrow-requires-2 c κs = k-at-most (c .before .before)
 
--- src/lib.rt:233:9
 refuse-requires-3 : tie.Need-refuse-requires-3
 refuse-requires-3 c κs = search needs
 
--- src/lib.rt:233:9
 returns-3 : tie.Need-returns-3
-returns-3 c = ?
+returns-3 c = c .refuse3 .ensures ∙ sym (past2 (c .before .before .before) ∙ fail tt _ _ (test-fails (c .before .before .is-narrow2 .ensures) (c .before .if3 .taken)))
 
--- src/lib.rt:223:1
 returns-4 : tie.Need-returns-4
-returns-4 c = ?
+returns-4 c = sym (past3 c ∙ pass-all tt)
 
 pub check-weights-spec : {M : Type 1} → statement M
 check-weights-spec =
