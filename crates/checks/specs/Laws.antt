@@ -12,7 +12,7 @@ use lib.Dec.{leb, ltb}
 use lib.ListN.{length, getD, drop, drop-of-length-le}
 use lib.Seq.{drop-cons}
 use Rattle.checks.specs.Search.{firstFrom, firstNotBelow}
-use Rattle.checks.specs.Checks.{Check, Verdict, accepted, refused, verdict, checked, settled, within, isNone, allBelow}
+use Rattle.checks.specs.Checks.{Check, Verdict, accepted, refused, verdict, checked, Outcome, settled, within, isNone, allBelow}
 use Rattle.checks.specs.Answers.{checkedReading, refusalReading, foundReading}
 use Rattle.checks.specs.declared.Refusal.{Refusal}
 use Rattle.checks.specs.declared.Checked.{Checked}
@@ -161,3 +161,9 @@ module _ (cs : List Check) (r : Checked) (e : checkedReading r ≡ checked cs) w
 
   pub checks-failed : {A : Type 0} (a : A) (f : Refusal) → r ≡ Failed f → verdict cs a ≡ refusalReading f
   checks-failed a f p = refuses tt a (f .code) (f .position) cs (sym e ∙ ap checkedReading p)
+
+  pub settles-accepted : {A B : Type 0} (a : A) (before after : B) → r ≡ Passed → record { answer = accepted a; buffers = after } ≡ settled (verdict cs a) before after
+  settles-accepted {A} a before after p = ap (λ (v : Verdict A). settled v before after) (sym (checks-passed a p))
+
+  pub settles-refused : {A B : Type 0} (a : A) (before after : B) (f : Refusal) → r ≡ Failed f → record { answer = refusalReading f; buffers = before } ≡ settled (verdict cs a) before after
+  settles-refused {A} a before after f p = ap (λ (v : Verdict A). settled v before after) (sym (checks-failed a f p))

@@ -4,9 +4,10 @@ use Prim.Native.Nat.{ℕ, _^_, _<_, _≤_}
 use native.Mathlib.Omega.{arith}
 use native.Mathlib.Decide.{decLe}
 use lib.IntN.{ℤ, pos, _-ℤ_}
+use lib.Signed.{mag}
 use mir.Syntax.{w32}
-use mir.Val.{SFits, toZ}
-use mir.Facts.{toZ-pos}
+use mir.Val.{SFits, toZ, ofZ}
+use mir.Facts.{toZ-pos, toZ-ofZ}
 use borrow.Author.Needs.{sfits-of}
 use Rattle.residue.specs.Integers.{minus-above, minus-below}
 
@@ -22,3 +23,7 @@ module _ (a b : ℕ) (ha : a < 2 ^ 31) (hb : b < 2 ^ 31) where
       go (no h) =
           let l : a < b = omega arith in
           rw (minus-below a b l) (sfits-of (omega arith))
+
+-- an i32 that a call answers is itself when it is read back
+pub read-back : (z : ℤ) → mag z < 2 ^ 31 → toZ w32 (ofZ w32 z) ≡ z
+read-back z h = toZ-ofZ (sfits-of h)

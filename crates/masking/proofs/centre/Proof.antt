@@ -1,33 +1,35 @@
+-- The checks' verdict, and behind them a residue below q.
+use mathlib.Core.Path.{sym, ap, _∙_}
+use borrow.Author.Tests.{ltb-true}
+use Rattle.residue.proofs.Signed.{read-back}
+use Rattle.checks.specs.Checks.{accepted}
+use Rattle.checks.specs.Laws.{checks-hold, checks-passed, checks-failed}
+use Rattle.masking.specs.Signed.{centred}
 use borrow.Author.Needs.{needs}
 use Rattle.masking.proofs.centre.Statement.{statement}
 use Rattle.masking.proofs.centre.Tie as tie
-use Rattle.masking.proofs.centre.Reads as reads
-use Rattle.masking.proofs.centre.Lts as lts
-use Rattle.masking.proofs.centred_value.Reads as centred-value-reads
-use Rattle.masking.proofs.check_centre.Reads as check-centre-reads
 
--- src/lib.rt:217:33
 check-centre-requires : tie.Need-check-centre-requires
 check-centre-requires c κs = search needs
 
--- src/lib.rt:217:28
 enum-known-f : tie.Need-enum-known-f
 enum-known-f c = search needs
 
--- src/lib.rt:218:9
 returns : tie.Need-returns
-returns c = ?
+unfolding centred
+returns c = sym (checks-failed _ _ (c .before .before .before .check-centre .ensures) _ _ (c .before .f .given .1))
 
 enum-told : tie.Need-enum-told
 enum-told c = search needs
 
--- src/lib.rt:220:25
 centred-value-requires : tie.Need-centred-value-requires
-centred-value-requires c κs = ?
+centred-value-requires c κs = ltb-true _ _ (checks-hold _ _ (c .before .before .check-centre .ensures) (c .enum-told .given .1) .1 .0)
 
--- src/lib.rt:213:1
 returns-2 : tie.Need-returns-2
-returns-2 c = ?
+unfolding centred
+returns-2 c =
+    ap accepted (read-back (c .centred-value .result) (c .centred-value .ok) ∙ c .centred-value .ensures)
+    ∙ sym (checks-passed _ _ (c .before .before .before .check-centre .ensures) _ (c .before .enum-told .given .1))
 
 pub centre-spec : {M : Type 1} → statement M
 centre-spec =

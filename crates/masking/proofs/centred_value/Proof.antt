@@ -1,38 +1,40 @@
+-- One answer for each side of the test.
+use mathlib.Core.Path.{_∙_}
+use Prim.Native.Nat.{_*_, _≤_, _<_}
+use native.Mathlib.Omega.{arith}
+use borrow.Author.Tests.{lt-ltb, le-ltb}
+use Rattle.residue.proofs.Signed.{read-back}
+use Rattle.residue.specs.Integers.{minus-zero}
 use borrow.Author.Needs.{needs}
 use Rattle.masking.proofs.centred_value.Statement.{statement}
 use Rattle.masking.proofs.centred_value.Tie as tie
-use Rattle.masking.proofs.centred_value.Reads as reads
-use Rattle.masking.proofs.centred_value.Lts as lts
-use Rattle.residue.proofs.difference.Reads as difference-reads
-use Rattle.residue.proofs.widen.Reads as widen-reads
 
--- src/lib.rt:204:12
 widen-requires : tie.Need-widen-requires
 widen-requires c κs = search needs
 
--- src/lib.rt:204:8
 mul-if1 : tie.Need-mul-if1
 mul-if1 c = search needs
 
--- src/lib.rt:204:32
 widen-requires-2 : tie.Need-widen-requires-2
 widen-requires-2 c κs = search needs
 
--- src/lib.rt:205:9
 difference-requires : tie.Need-difference-requires
 difference-requires c κs = search needs
 
--- src/lib.rt:207:9
 difference-requires-2 : tie.Need-difference-requires-2
 difference-requires-2 c κs = search needs
 
--- src/lib.rt:200:1
 returns : tie.Need-returns
-returns c = ?
+returns c =
+    let a = c .before .before .before .before .args in
+    let l : 2 * a .r < a .q = omega (arith, c .before .if1 .taken, c .before .before .widen2 .ensures, c .before .before .before .widen .ensures) in
+    read-back (c .difference .result) (c .difference .ok) ∙ c .difference .ensures ∙ minus-zero (a .r) ∙ simp (lt-ltb (2 * a .r) (a .q) l)
 
--- src/lib.rt:200:1
 returns-2 : tie.Need-returns-2
-returns-2 c = ?
+returns-2 c =
+    let a = c .before .before .before .before .args in
+    let l : a .q ≤ 2 * a .r = omega (arith, c .before .if1 .left, c .before .before .widen2 .ensures, c .before .before .before .widen .ensures) in
+    read-back (c .difference2 .result) (c .difference2 .ok) ∙ c .difference2 .ensures ∙ simp (le-ltb (2 * a .r) (a .q) l)
 
 pub centred-value-spec : {M : Type 1} → statement M
 centred-value-spec =

@@ -1,33 +1,38 @@
+-- The checks' verdict, and behind them the XOR of a list that is not empty.
+use mathlib.Core.Path.{_≡_, sym, ap, _∙_}
+use native.Mathlib.Omega.{arith}
+use borrow.Author.Tests.{eqb-true}
+use lib.ListN.{length}
+use Rattle.checks.specs.Checks.{accepted}
+use Rattle.checks.specs.Laws.{within-true, checks-hold, checks-passed, checks-failed}
+use Rattle.masking.specs.Sharing.{openedString}
 use borrow.Author.Needs.{needs}
 use Rattle.masking.proofs.open_string.Statement.{statement}
 use Rattle.masking.proofs.open_string.Tie as tie
-use Rattle.masking.proofs.open_string.Reads as reads
-use Rattle.masking.proofs.open_string.Lts as lts
-use Rattle.masking.proofs.check_open_string.Reads as check-open-string-reads
-use Rattle.masking.proofs.xor_all.Reads as xor-all-reads
 
--- src/lib.rt:138:33
 check-open-string-requires : tie.Need-check-open-string-requires
 check-open-string-requires c κs = search needs
 
--- src/lib.rt:138:28
 enum-known-r : tie.Need-enum-known-r
 enum-known-r c = search needs
 
--- src/lib.rt:139:9
 returns : tie.Need-returns
-returns c = ?
+unfolding openedString
+returns c = sym (checks-failed _ _ (c .before .before .before .check-open-string .ensures) _ _ (c .before .r .given .1))
 
 enum-told : tie.Need-enum-told
 enum-told c = search needs
 
--- src/lib.rt:141:39
 xor-all-requires : tie.Need-xor-all-requires
-xor-all-requires c κs = ?
+xor-all-requires c κs =
+    let a = c .before .before .before .before .args in
+    let h = checks-hold _ _ (c .before .before .check-open-string .ensures) (c .enum-told .given .1) in
+    let e : length (a .shares .now) ≡ a .n = eqb-true _ _ (h .1 .1 .0) in
+    omega (arith, within-true 2 8 (a .n) (h .0))
 
--- src/lib.rt:135:1
 returns-2 : tie.Need-returns-2
-returns-2 c = ?
+unfolding openedString
+returns-2 c = ap accepted (c .xor-all .ensures) ∙ sym (checks-passed _ _ (c .before .before .before .check-open-string .ensures) _ (c .before .enum-told .given .1))
 
 pub open-string-spec : {M : Type 1} → statement M
 open-string-spec =

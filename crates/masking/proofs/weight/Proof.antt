@@ -1,15 +1,15 @@
+-- The count of ones is the sum of the bits, and at most 16.
+use native.Mathlib.Omega.{arith}
+use lib.Count.{ones-le}
+use Rattle.masking.specs.Weight.{ones-weight}
 use Rattle.masking.proofs.weight.Statement.{statement}
 use Rattle.masking.proofs.weight.Tie as tie
-use Rattle.masking.proofs.weight.Reads as reads
-use Rattle.masking.proofs.weight.Lts as lts
 
--- src/lib.rt:241:5
 cast-result : tie.Need-cast-result
-cast-result c = ?
+cast-result c = omega (arith, ones-le 16 (c .args .x) (c .fits .x .fits))
 
--- src/lib.rt:238:1
 returns : tie.Need-returns
-returns c = ?
+returns c = ones-weight 16 (c .args .x) (omega arith) (c .fits .x .fits)
 
 pub weight-spec : {M : Type 1} → statement M
 weight-spec = tie.close (tie.spec cast-result returns)

@@ -1,51 +1,49 @@
+-- The checks' verdict, and behind them the difference of the two weights.
+use mathlib.Core.Path.{sym, ap, ap₂, _∙_}
+use Prim.Native.Nat.{ℕ}
+use lib.IntN.{pos, _-ℤ_}
+use Rattle.residue.proofs.Signed.{read-back}
+use Rattle.checks.specs.Checks.{accepted}
+use Rattle.checks.specs.Laws.{checks-passed, checks-failed}
+use Rattle.masking.specs.Signed.{weightDifference}
 use borrow.Author.Needs.{needs}
 use Rattle.masking.proofs.weight_difference.Statement.{statement}
 use Rattle.masking.proofs.weight_difference.Tie as tie
-use Rattle.masking.proofs.weight_difference.Reads as reads
-use Rattle.masking.proofs.weight_difference.Lts as lts
-use Rattle.masking.proofs.check_weights.Reads as check-weights-reads
-use Rattle.masking.proofs.weight.Reads as weight-reads
-use Rattle.residue.proofs.difference.Reads as difference-reads
-use Rattle.residue.proofs.from_u16.Reads as from-u16-reads
 
--- src/lib.rt:251:33
 check-weights-requires : tie.Need-check-weights-requires
 check-weights-requires c κs = search needs
 
--- src/lib.rt:251:28
 enum-known-f : tie.Need-enum-known-f
 enum-known-f c = search needs
 
--- src/lib.rt:252:9
 returns : tie.Need-returns
-returns c = ?
+unfolding weightDifference
+returns c = sym (checks-failed _ _ (c .before .before .before .check-weights .ensures) _ _ (c .before .f .given .1))
 
 enum-told : tie.Need-enum-told
 enum-told c = search needs
 
--- src/lib.rt:254:32
 weight-requires : tie.Need-weight-requires
 weight-requires c κs = search needs
 
--- src/lib.rt:254:9
 from-u16-requires : tie.Need-from-u16-requires
 from-u16-requires c κs = search needs
 
--- src/lib.rt:255:32
 weight-requires-2 : tie.Need-weight-requires-2
 weight-requires-2 c κs = search needs
 
--- src/lib.rt:255:9
 from-u16-requires-2 : tie.Need-from-u16-requires-2
 from-u16-requires-2 c κs = search needs
 
--- src/lib.rt:256:25
 difference-requires : tie.Need-difference-requires
 difference-requires c κs = search needs
 
--- src/lib.rt:246:1
 returns-2 : tie.Need-returns-2
-returns-2 c = ?
+unfolding weightDifference
+returns-2 c =
+    ap accepted (read-back (c .difference .result) (c .difference .ok) ∙ c .difference .ensures
+    ∙ ap₂ (λ (x y : ℕ). pos x -ℤ pos y) (c .before .before .before .from-u16 .ensures ∙ c .before .before .before .before .weight .ensures) (c .before .from-u162 .ensures ∙ c .before .before .weight2 .ensures))
+    ∙ sym (checks-passed _ _ (c .before .before .before .before .before .before .before .check-weights .ensures) _ (c .before .before .before .before .before .enum-told .given .1))
 
 pub weight-difference-spec : {M : Type 1} → statement M
 weight-difference-spec =
