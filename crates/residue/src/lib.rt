@@ -12,12 +12,20 @@ pub type Word = u16;
 pub type Wide = u32;
 
 // (a - b) mod q. Bit 31 of the 32-bit difference says whether it fell below zero, and q is added that many times.
+fn wrapping_sub(a: u64, b: u64, q: u64) -> u32
+    requires { ⌜ (b ≤ q) × (a < q + b) × (q < 2 ^ 31) ⌝ }
+    ensures { λ r. ⌜ r ≡ sub q a b ⌝ }
+{
+    let d = (a + 0x100000000 - b) & 0xffffffff;
+    ((d + q * (d >> 31)) & 0xffffffff) as u32
+}
+
+// (a - b) mod q.
 pub fn sub(a: Wide, b: Wide, q: Wide) -> Wide
     requires { ⌜ (b ≤ q) × (a < q + b) × (q < 2 ^ 31) ⌝ }
     ensures { λ r. ⌜ r ≡ sub q a b ⌝ }
 {
-    let d = (a as u64 + 0x100000000 - b as u64) & 0xffffffff;
-    ((d + (q as u64) * (d >> 31)) & 0xffffffff) as Wide
+    wrapping_sub(a as u64, b as u64, q as u64) as Wide
 }
 
 // (a + b) mod q.

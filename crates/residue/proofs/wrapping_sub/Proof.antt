@@ -5,8 +5,8 @@ use native.Mathlib.Omega.{arith}
 use lib.Bits.{and-mask, mask-lt}
 use borrow.Author.Needs.{needs}
 use Rattle.residue.proofs.Wrapped.{difference, d-lt, added-le, value}
-use Rattle.residue.proofs.sub.Statement.{statement}
-use Rattle.residue.proofs.sub.Tie as tie
+use Rattle.residue.proofs.wrapping_sub.Statement.{statement}
+use Rattle.residue.proofs.wrapping_sub.Tie as tie
 
 add-d : tie.Need-add-d
 add-d c = search needs
@@ -31,5 +31,5 @@ cast-result c =
 returns : tie.Need-returns
 returns c = and-mask _ 32 ∙ value (c .args .a) (c .args .b) (c .args .q) (c .pre .0) (c .pre .1) (c .pre .2)
 
-pub sub-spec : {M : Type 1} → statement M
-sub-spec = tie.close (tie.spec add-d sub-d mul-result add-result cast-result returns)
+pub wrapping-sub-spec : {M : Type 1} → statement M
+wrapping-sub-spec = tie.close (tie.spec add-d sub-d mul-result add-result cast-result returns)
