@@ -2,7 +2,7 @@
 use mathlib.Core.Bool.{Bool, true, false, cond, _&&_}
 use mathlib.Core.List.{List, [], _∷_}
 use mathlib.Core.Option.{Option, none, some}
-use Prim.Native.Nat.{ℕ, _^_}
+use Prim.Native.Nat.{ℕ, _+_, _*_, _^_}
 use lib.Dec.{leb, ltb, eqb}
 use lib.ListN.{length}
 use Rattle.checks.specs.Search.{firstNotBelow}
@@ -82,3 +82,7 @@ narrow code k l = allBelow code (2 ^ k) l
 -- the number is below the limit
 abbrev pub below : ℕ → ℕ → ℕ → ℕ → Check
 below code position limit x = record { holds = ltb x limit; code = code; position = position }
+
+-- 1, 2 and 3 of the sampler: n, k, and q at least 2k + 1
+abbrev pub parameterChecks : ℕ → ℕ → ℕ → List Check
+parameterChecks n k q = shareCount n ∷ stringLength k ∷ modulusAtLeast (2 * k + 1) q ∷ []

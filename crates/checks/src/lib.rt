@@ -5,7 +5,7 @@ ghost use Prim.Native.Nat.{_*_, _^_, _≤_};
 ghost use lib.Dec.{ltb};
 ghost use lib.ListN.{length, take};
 ghost use Rattle.checks.specs.Search.{firstNotBelow};
-ghost use Rattle.checks.specs.Checks.{refused, within};
+ghost use Rattle.checks.specs.Checks.{refused, checked, within, parameterChecks};
 ghost use Rattle.checks.specs.Answers.{foundReading, checkedReading};
 
 // Document 01's number for a refused call, and the position (its 'place') of what is unfit.
@@ -112,6 +112,22 @@ pub fn within(low: usize, high: usize, x: usize) -> bool
     ensures { λ r. ⌜ r ≡ within low high x ⌝ }
 {
     if x < low { false } else { x <= high }
+}
+
+// Checks 1, 2 and 3 of the sampler.
+pub fn check_parameters(n: usize, k: usize, q: Word) -> Checked
+    ensures { λ r. ⌜ checkedReading r ≡ checked (parameterChecks n k q) ⌝ }
+{
+    if !within(2, 8, n) {
+        return refuse(SHARE_COUNT, 0);
+    }
+    if !within(1, 16, k) {
+        return refuse(STRING_LENGTH, 0);
+    }
+    if residue::to_usize(q) < 2 * k + 1 {
+        return refuse(MODULUS, 0);
+    }
+    Checked::Passed
 }
 
 // No bit at k or above.
