@@ -2,7 +2,7 @@
 // Every cast to or from Word stands here.
 ghost use mathlib.Core.Path.{_≡_};
 ghost use Prim.Native.Nat.{_+_, _^_, _≤_, _<_};
-ghost use lib.IntN.{pos, _-ℤ_};
+ghost use lib.IntN.{pos, _-ℤ_, natAbs};
 ghost use Rattle.residue.specs.Residue.{add, sub};
 
 // The type of a modulus, a random word and an arithmetic share.
@@ -76,4 +76,15 @@ pub fn difference(a: Word, b: Word) -> i32
     ensures { λ r. ⌜ r ≡ pos a -ℤ pos b ⌝ }
 {
     (a as i32) - (b as i32)
+}
+
+// z without its sign.
+pub fn magnitude(z: i32) -> u32
+    ensures { λ r. ⌜ r ≡ natAbs z ⌝ }
+{
+    if z < 0 {
+        (0 - (z as i64)) as u32
+    } else {
+        z as u32
+    }
 }

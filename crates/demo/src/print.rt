@@ -1,0 +1,48 @@
+// Fields of a line, each with a space before it.
+use checks::Refusal;
+use libc::STDOUT_FILENO;
+use residue::Word;
+
+pub fn text(s: &[u8]) {
+    io::write_all(STDOUT_FILENO, s);
+}
+
+pub fn line() {
+    text(b"\n");
+}
+
+pub fn number(x: usize) {
+    text(b" ");
+    io::print_decimal(STDOUT_FILENO, x as u64);
+}
+
+pub fn shares(list: &[u16]) {
+    for i in 0..list.len() {
+        number(list[i] as usize);
+    }
+}
+
+pub fn words(list: &[Word]) {
+    for i in 0..list.len() {
+        number(residue::to_usize(list[i]));
+    }
+}
+
+pub fn gives(x: usize) {
+    text(b" gives");
+    number(x);
+}
+
+pub fn gives_signed(z: i32) {
+    text(b" gives ");
+    if z < 0 {
+        text(b"-");
+    }
+    io::print_decimal(STDOUT_FILENO, residue::magnitude(z) as u64);
+}
+
+pub fn refused(r: Refusal) {
+    text(b" refused");
+    number(r.code as usize);
+    number(r.position);
+}

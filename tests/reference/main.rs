@@ -1,0 +1,204 @@
+//! The calls of document 01, written from the page alone and sharing no code with the library.
+//!
+//! `reference FILE NUMBER..` reads the lines that the demo program printed. For each it takes the call and its inputs, works out the
+//! answer and the output by itself, and compares the whole line. Each NUMBER must have been met as a refusal.
+
+use std::collections::BTreeMap;
+use std::process::exit;
+
+/// How a call ends: what it answers, or document 01's number and place.
+type Verdict<T> = Result<T, (u64, usize)>;
+
+fn ask(holds: bool, number: u64, place: usize) -> Verdict<()> {
+    if holds {
+        Ok(())
+    } else {
+        Err((number, place))
+    }
+}
+
+/// Every element passes, or the place of the first that does not.
+fn ask_all(list: &[u64], number: u64, passes: impl Fn(u64) -> bool) -> Verdict<()> {
+    match list.iter().position(|x| !passes(*x)) {
+        None => Ok(()),
+        Some(place) => Err((number, place)),
+    }
+}
+
+fn has_bits_at_or_above(word: u64, k: u64) -> bool {
+    (k..64).any(|i| word >> i & 1 == 1)
+}
+
+fn mask(n: u64, k: u64, value: u64, masks: &[u64], out: &mut [u64]) -> Verdict<u64> {
+    ask((2..=8).contains(&n), 1, 0)?;
+    ask((1..=16).contains(&k), 2, 0)?;
+    ask(!has_bits_at_or_above(value, k), 12, 0)?;
+    ask(masks.len() as u64 == n - 1, 13, 0)?;
+    ask_all(masks, 14, |m| !has_bits_at_or_above(m, k))?;
+    ask(out.len() as u64 >= n, 10, 0)?;
+    let mut last = value;
+    for (i, m) in masks.iter().enumerate() {
+        out[i] = *m;
+        last ^= m;
+    }
+    out[masks.len()] = last;
+    Ok(n)
+}
+
+fn open_string(n: u64, k: u64, shares: &[u64]) -> Verdict<u64> {
+    ask((2..=8).contains(&n), 1, 0)?;
+    ask((1..=16).contains(&k), 2, 0)?;
+    ask(shares.len() as u64 == n, 4, 0)?;
+    ask_all(shares, 6, |s| !has_bits_at_or_above(s, k))?;
+    Ok(shares.iter().fold(0, |a, s| a ^ s))
+}
+
+fn open_residue(n: u64, q: u64, shares: &[u64]) -> Verdict<u64> {
+    ask((2..=8).contains(&n), 1, 0)?;
+    ask(q >= 3, 3, 0)?;
+    ask(shares.len() as u64 == n, 15, 0)?;
+    ask_all(shares, 16, |s| s < q)?;
+    Ok(shares.iter().sum::<u64>() % q)
+}
+
+fn centre(q: u64, r: u64) -> Verdict<i64> {
+    ask(q >= 3, 3, 0)?;
+    ask(r < q, 17, 0)?;
+    Ok(if 2 * r < q { r as i64 } else { r as i64 - q as i64 })
+}
+
+fn weight(word: u64) -> i64 {
+    (0..16).map(|i| (word >> i & 1) as i64).sum()
+}
+
+fn weight_difference(k: u64, x: u64, y: u64) -> Verdict<i64> {
+    ask((1..=16).contains(&k), 2, 0)?;
+    ask(!has_bits_at_or_above(x, k), 12, 0)?;
+    ask(!has_bits_at_or_above(y, k), 12, 1)?;
+    Ok(weight(x) - weight(y))
+}
+
+fn parameters(n: u64, k: u64, q: u64) -> Verdict<()> {
+    ask((2..=8).contains(&n), 1, 0)?;
+    ask((1..=16).contains(&k), 2, 0)?;
+    ask(q >= 2 * k + 1, 3, 0)
+}
+
+fn parameter_set(number: u64) -> Verdict<(u64, u64)> {
+    match number {
+        1 => Ok((2, 3329)),
+        2 => Ok((3, 3329)),
+        3 => Ok((8, 12289)),
+        4 => Ok((16, 12289)),
+        5 => Ok((5, 8192)),
+        6 => Ok((4, 8192)),
+        7 => Ok((3, 8192)),
+        _ => Err((22, 0)),
+    }
+}
+
+/// A line's inputs: a name, and the numbers behind it. The call's own name is the first.
+struct Inputs {
+    fields: Vec<(String, Vec<u64>)>,
+}
+
+impl Inputs {
+    /// What stands before the answer.
+    fn read(line: &str) -> Inputs {
+        let mut fields: Vec<(String, Vec<u64>)> = Vec::new();
+        for word in line.split(' ') {
+            if let Ok(x) = word.parse() {
+                fields.last_mut().expect("a name before a number").1.push(x);
+            } else if ["gives", "refused", "pass"].contains(&word) {
+                break;
+            } else {
+                fields.push((word.to_string(), Vec::new()));
+            }
+        }
+        Inputs { fields }
+    }
+
+    fn call(&self) -> &str {
+        &self.fields[0].0
+    }
+
+    fn list(&self, name: &str) -> &[u64] {
+        match self.fields.iter().find(|f| f.0 == name) {
+            Some(f) => &f.1,
+            None => panic!("no field {name}"),
+        }
+    }
+
+    fn number(&self, name: &str) -> u64 {
+        assert_eq!(self.list(name).len(), 1, "field {name}");
+        self.list(name)[0]
+    }
+
+    fn text(&self) -> String {
+        let words = self.fields.iter().map(|(name, numbers)| format!("{name}{}", spaced(numbers)));
+        words.collect::<Vec<_>>().join(" ")
+    }
+}
+
+fn spaced(numbers: &[u64]) -> String {
+    numbers.iter().map(|x| format!(" {x}")).collect()
+}
+
+fn ending<T>(verdict: Verdict<T>, accepted: impl Fn(T) -> String, met: &mut BTreeMap<u64, usize>) -> String {
+    match verdict {
+        Ok(x) => {
+            *met.entry(0).or_default() += 1;
+            accepted(x)
+        }
+        Err((number, place)) => {
+            *met.entry(number).or_default() += 1;
+            format!(" refused {number} {place}")
+        }
+    }
+}
+
+/// The whole line that the inputs should give.
+fn expected(i: &Inputs, met: &mut BTreeMap<u64, usize>) -> String {
+    let answer = match i.call() {
+        "mask" => {
+            let mut out = i.list("out").to_vec();
+            let verdict = mask(i.number("n"), i.number("k"), i.number("value"), i.list("masks"), &mut out);
+            ending(verdict, |x| format!(" gives {x}"), met) + " out" + &spaced(&out)
+        }
+        "open_string" => ending(open_string(i.number("n"), i.number("k"), i.list("shares")), |x| format!(" gives {x}"), met),
+        "open_residue" => ending(open_residue(i.number("n"), i.number("q"), i.list("shares")), |x| format!(" gives {x}"), met),
+        "centre" => ending(centre(i.number("q"), i.number("residue")), |x| format!(" gives {x}"), met),
+        "weight_difference" => ending(weight_difference(i.number("k"), i.number("x"), i.number("y")), |x| format!(" gives {x}"), met),
+        "parameters" => ending(parameters(i.number("n"), i.number("k"), i.number("q")), |()| " pass".to_string(), met),
+        "parameter_set" => ending(parameter_set(i.number("parameter_set")), |(k, q)| format!(" gives {k} {q}"), met),
+        other => panic!("unknown call {other}"),
+    };
+    i.text() + &answer
+}
+
+fn main() {
+    let arguments: Vec<String> = std::env::args().collect();
+    let text = std::fs::read_to_string(&arguments[1]).expect("the demo's output");
+    assert!(text.ends_with('\n'), "the last line has no line feed");
+    let mut met = BTreeMap::new();
+    let mut wrong = 0;
+    for (number, line) in text.lines().enumerate() {
+        let want = expected(&Inputs::read(line), &mut met);
+        if line != want {
+            wrong += 1;
+            eprintln!("line {}: {line}\n  should be: {want}", number + 1);
+        }
+    }
+    for number in &arguments[2..] {
+        let number = number.parse().expect("a refusal's number");
+        if !met.contains_key(&number) {
+            wrong += 1;
+            eprintln!("no call is refused with {number}");
+        }
+    }
+    let refused: Vec<String> = met.iter().filter(|(n, _)| **n != 0).map(|(n, c)| format!("{n}:{c}")).collect();
+    println!("reference: {} lines, {} accepted, refusals by number {}", text.lines().count(), met.get(&0).unwrap_or(&0), refused.join(" "));
+    if wrong != 0 {
+        exit(1);
+    }
+}
