@@ -13,22 +13,16 @@ use masking::StringAnswer;
 use residue::Word;
 
 fn mask(n: usize, k: usize, value: u16, masks: &[u16], out: &mut [u16]) {
-    print::text(b"mask n");
-    print::number(n);
-    print::text(b" k");
-    print::number(k);
-    print::text(b" value");
-    print::number(value as usize);
-    print::text(b" masks");
-    print::shares(masks);
-    print::text(b" out");
-    print::shares(out);
+    print::field(b"mask n", n);
+    print::field(b" k", k);
+    print::field(b" value", value as usize);
+    print::shares(b" masks", masks);
+    print::shares(b" out", out);
     match masking::mask(n, k, OpenedString(value), masks, out) {
         Answer::Done(count) => print::gives(count),
         Answer::Refused(r) => print::refused(r),
     }
-    print::text(b" out");
-    print::shares(out);
+    print::shares(b" out", out);
     print::line();
 }
 
@@ -39,12 +33,9 @@ fn mask_four(n: usize, k: usize, value: u16, masks: &[u16]) {
 }
 
 fn open_string(n: usize, k: usize, shares: &[u16]) {
-    print::text(b"open_string n");
-    print::number(n);
-    print::text(b" k");
-    print::number(k);
-    print::text(b" shares");
-    print::shares(shares);
+    print::field(b"open_string n", n);
+    print::field(b" k", k);
+    print::shares(b" shares", shares);
     match masking::open_string(n, k, shares) {
         StringAnswer::Opened(s) => print::gives(s.0 as usize),
         StringAnswer::Refused(r) => print::refused(r),
@@ -53,12 +44,9 @@ fn open_string(n: usize, k: usize, shares: &[u16]) {
 }
 
 fn open_residue(n: usize, q: Word, shares: &[Word]) {
-    print::text(b"open_residue n");
-    print::number(n);
-    print::text(b" q");
-    print::number(residue::to_usize(q));
-    print::text(b" shares");
-    print::words(shares);
+    print::field(b"open_residue n", n);
+    print::field(b" q", residue::to_usize(q));
+    print::words(b" shares", shares);
     match masking::open_residue(n, q, shares) {
         ResidueAnswer::Opened(s) => print::gives(residue::to_usize(s.0)),
         ResidueAnswer::Refused(r) => print::refused(r),
@@ -75,30 +63,22 @@ fn signed(answer: SignedAnswer) {
 }
 
 fn centre(q: Word, r: Word) {
-    print::text(b"centre q");
-    print::number(residue::to_usize(q));
-    print::text(b" residue");
-    print::number(residue::to_usize(r));
+    print::field(b"centre q", residue::to_usize(q));
+    print::field(b" residue", residue::to_usize(r));
     signed(masking::centre(q, OpenedResidue(r)));
 }
 
 fn weight_difference(k: usize, x: u16, y: u16) {
-    print::text(b"weight_difference k");
-    print::number(k);
-    print::text(b" x");
-    print::number(x as usize);
-    print::text(b" y");
-    print::number(y as usize);
+    print::field(b"weight_difference k", k);
+    print::field(b" x", x as usize);
+    print::field(b" y", y as usize);
     signed(masking::weight_difference(k, OpenedString(x), OpenedString(y)));
 }
 
 fn parameters(n: usize, k: usize, q: Word) {
-    print::text(b"parameters n");
-    print::number(n);
-    print::text(b" k");
-    print::number(k);
-    print::text(b" q");
-    print::number(residue::to_usize(q));
+    print::field(b"parameters n", n);
+    print::field(b" k", k);
+    print::field(b" q", residue::to_usize(q));
     match checks::check_parameters(n, k, q) {
         Checked::Passed => print::text(b" pass"),
         Checked::Failed(r) => print::refused(r),
@@ -107,8 +87,7 @@ fn parameters(n: usize, k: usize, q: Word) {
 }
 
 fn parameter_set(number: usize) {
-    print::text(b"parameter_set");
-    print::number(number);
+    print::field(b"parameter_set", number);
     match masking::parameter_set(number) {
         SetAnswer::Set(s) => {
             print::gives(s.k);
@@ -119,14 +98,19 @@ fn parameter_set(number: usize) {
     print::line();
 }
 
-// Value e, opened again, and what each check of masking refuses.
+// Value e, into three, four and two positions.
 fn masks() {
     let e: [u16; 2] = [3, 12];
     let mut three = [65535u16; 3];
     mask(3, 4, 10, &e, &mut three);
+    mask_four(3, 4, 10, &e);
     let mut two = [65535u16; 2];
     mask(3, 4, 10, &e, &mut two);
-    mask_four(3, 4, 10, &e);
+    mask_four(4, 16, 65535, &[65535, 1, 32768]);
+}
+
+fn unfit_sizes() {
+    let e: [u16; 2] = [3, 12];
     mask_four(0, 4, 10, &e);
     mask_four(1, 0, 10, &e);
     mask_four(9, 4, 10, &e);
@@ -134,15 +118,18 @@ fn masks() {
     mask_four(3, 0, 10, &e);
     mask_four(3, 17, 10, &e);
     mask_four(3, 18446744073709551615, 10, &e);
+}
+
+fn unfit_masks() {
+    let e: [u16; 2] = [3, 12];
     mask_four(3, 4, 16, &e);
     mask_four(4, 4, 10, &e);
     mask_four(2, 4, 10, &e);
     mask_four(3, 3, 5, &e);
     mask_four(2, 4, 10, &[16]);
-    mask_four(4, 16, 65535, &[65535, 1, 32768]);
 }
 
-fn openings() {
+fn strings() {
     open_string(3, 4, &[3, 12, 5]);
     open_string(4, 16, &[65535, 1, 32768, 32769]);
     open_string(1, 4, &[3]);
@@ -152,6 +139,9 @@ fn openings() {
     open_string(3, 4, &[3, 12, 5, 0]);
     open_string(3, 3, &[3, 12, 5]);
     open_string(3, 4, &[3, 12, 16]);
+}
+
+fn residues() {
     open_residue(2, 17, &[7, 11]);
     open_residue(2, 17, &[7, 9]);
     open_residue(3, 17, &[12, 4, 1]);
@@ -167,8 +157,8 @@ fn openings() {
     open_residue(2, 17, &[18, 17]);
 }
 
-// Values f and g, and the weights.
-fn readings() {
+// Values f and g.
+fn centred() {
     centre(33, 16);
     centre(33, 17);
     centre(8, 3);
@@ -176,6 +166,9 @@ fn readings() {
     centre(65535, 65534);
     centre(2, 1);
     centre(17, 17);
+}
+
+fn weights() {
     weight_difference(4, 10, 1);
     weight_difference(16, 65535, 0);
     weight_difference(16, 0, 65535);
@@ -185,25 +178,23 @@ fn readings() {
     weight_difference(3, 8, 8);
 }
 
-// Value h, and the table.
+// Value h, and every number of a parameter set with one before and one behind.
 fn sets() {
     parameters(2, 16, 32);
     parameters(2, 16, 33);
     parameters(1, 0, 0);
-    parameter_set(0);
-    parameter_set(1);
-    parameter_set(2);
-    parameter_set(3);
-    parameter_set(4);
-    parameter_set(5);
-    parameter_set(6);
-    parameter_set(7);
-    parameter_set(8);
+    for number in 0..9 {
+        parameter_set(number);
+    }
 }
 
 fn main() {
     masks();
-    openings();
-    readings();
+    unfit_sizes();
+    unfit_masks();
+    strings();
+    residues();
+    centred();
+    weights();
     sets();
 }

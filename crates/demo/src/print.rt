@@ -16,21 +16,27 @@ pub fn number(x: usize) {
     io::print_decimal(STDOUT_FILENO, x as u64);
 }
 
-pub fn shares(list: &[u16]) {
+pub fn field(name: &[u8], x: usize) {
+    text(name);
+    number(x);
+}
+
+pub fn shares(name: &[u8], list: &[u16]) {
+    text(name);
     for i in 0..list.len() {
         number(list[i] as usize);
     }
 }
 
-pub fn words(list: &[Word]) {
+pub fn words(name: &[u8], list: &[Word]) {
+    text(name);
     for i in 0..list.len() {
         number(residue::to_usize(list[i]));
     }
 }
 
 pub fn gives(x: usize) {
-    text(b" gives");
-    number(x);
+    field(b" gives", x);
 }
 
 pub fn gives_signed(z: i32) {
@@ -42,7 +48,6 @@ pub fn gives_signed(z: i32) {
 }
 
 pub fn refused(r: Refusal) {
-    text(b" refused");
-    number(r.code as usize);
+    field(b" refused", r.code as usize);
     number(r.position);
 }

@@ -118,7 +118,9 @@ sum-all-add-words-requires : (t : ℕ) → sum-all-lts.Need-add-words-requires (
 sum-all-add-words-requires t c κs =
     let q = c .before .before .before .before .before .before .args .q in
     let p : 0 < q = omega arith in
-    (rw (c .before .before .sum-all .ensures) (reduce-lt q p _), rw (c .sum-all2 .ensures) (reduce-lt q p _), omega arith)
+    let a : c .before .before .sum-all .result < q = rw (c .before .before .sum-all .ensures) (reduce-lt q p _) in
+    let b : c .sum-all2 .result < q = rw (c .sum-all2 .ensures) (reduce-lt q p _) in
+    (omega arith, omega arith, omega arith)
 
 sum-all-returns-2 : (t : ℕ) → sum-all-lts.Need-returns-2 (
   sum-all-below t,

@@ -55,7 +55,7 @@ returns-2 : tie.Need-returns-2
 returns-2 c = c .refuse2 .ensures ∙ sym (past1 (c .before .before .before) ∙ fail tt _ _ (test-fails (c .before .before .within2 .ensures) (c .before .if2 .taken)))
 
 is-narrow-requires : tie.Need-is-narrow-requires
-is-narrow-requires c κs = k-at-most c
+is-narrow-requires c κs = omega (arith, k-at-most c)
 
 refuse-requires-3 : tie.Need-refuse-requires-3
 refuse-requires-3 c κs = search needs

@@ -1,17 +1,20 @@
 -- Each element of the list is printed.
 use mathlib.Core.Path.{_≡_}
 use Prim.Native.Nat.{_-_, _≤_}
-use lib.ListN.{length}
 use native.Mathlib.Omega.{arith}
+use lib.ListN.{length}
 use borrow.Author.Needs.{needs}
 use Rattle.demo.proofs.print.shares.Statement.{statement}
 use Rattle.demo.proofs.print.shares.Tie as tie
 
 abbrev Inv-loop : tie.InvT-loop
-Inv-loop list i₀ i-end i = (i ≤ i-end) × (i-end ≡ length list)
+Inv-loop name list i₀ i-end i = (i ≤ i-end) × (i-end ≡ length list)
 
 abbrev μ-loop : tie.MeasureT-loop
-μ-loop list i₀ i-end i = i-end - i
+μ-loop name list i₀ i-end i = i-end - i
+
+text-requires : tie.Need-text-requires Inv-loop μ-loop
+text-requires c κs = search needs
 
 loop-holds : tie.Need-loop-holds Inv-loop μ-loop
 loop-holds c = search needs
@@ -23,7 +26,7 @@ shared-slice-read-number : tie.Need-shared-slice-read-number Inv-loop μ-loop
 shared-slice-read-number c = search needs
 
 cast-number : tie.Need-cast-number Inv-loop μ-loop
-cast-number c = omega (arith, c .shared-slice-known2 .given (c .before .before .loop .i))
+cast-number c = omega (arith, c .shared-slice-known3 .given (c .before .before .loop .i))
 
 number-requires : tie.Need-number-requires Inv-loop μ-loop
 number-requires c κs = search needs
@@ -46,6 +49,7 @@ shares-spec =
     (tie.spec
     Inv-loop
     μ-loop
+    text-requires
     loop-holds
     mul-number
     shared-slice-read-number

@@ -7,10 +7,13 @@ use Rattle.demo.proofs.print.words.Statement.{statement}
 use Rattle.demo.proofs.print.words.Tie as tie
 
 abbrev Inv-loop : tie.InvT-loop
-Inv-loop list i₀ i-end i = (i ≤ i-end) × (i-end ≡ length list)
+Inv-loop name list i₀ i-end i = (i ≤ i-end) × (i-end ≡ length list)
 
 abbrev μ-loop : tie.MeasureT-loop
-μ-loop list i₀ i-end i = i-end - i
+μ-loop name list i₀ i-end i = i-end - i
+
+text-requires : tie.Need-text-requires Inv-loop μ-loop
+text-requires c κs = search needs
 
 loop-holds : tie.Need-loop-holds Inv-loop μ-loop
 loop-holds c = search needs
@@ -45,6 +48,7 @@ words-spec =
     (tie.spec
     Inv-loop
     μ-loop
+    text-requires
     loop-holds
     mul-to-usize
     shared-slice-read-to-usize
