@@ -1,6 +1,6 @@
 -- Laws of searches, and of going through a list of checks.
 use mathlib.Core.Path.{_≡_, refl, sym, ap, _∙_}
-use mathlib.Core.Bool.{Bool, true, false, cond, not, _&&_}
+use mathlib.Core.Bool.{Bool, true, false, cond, not, _&&_, false≢true}
 use mathlib.Core.List.{List, [], _∷_}
 use mathlib.Core.Option.{Option, none, some}
 use Prim.Native.Nat.{ℕ, zero, suc, suc-le-suc, _+_, _≤_, _<_}
@@ -11,6 +11,7 @@ use borrow.Author.Tests.{leb-true, ltb-true, lt-ltb, le-ltb, not-true, not-false
 use lib.Dec.{leb, ltb}
 use lib.ListN.{length, getD, drop, drop-of-length-le}
 use lib.Seq.{drop-cons}
+use Rattle.residue.specs.Residue.{EachBelow}
 use Rattle.checks.specs.Search.{firstFrom, firstNotBelow}
 use Rattle.checks.specs.Checks.{Check, Verdict, accepted, refused, verdict, checked, Outcome, settled, within, isNone, allBelow}
 use Rattle.checks.specs.Answers.{checkedReading, refusalReading, foundReading}
@@ -46,28 +47,27 @@ module _ (limit : ℕ) (l : List ℕ) where
 -- ---- what a search that finds nothing says
 
 module _ (limit : ℕ) where
-  pub found-none : (l : List ℕ) (s : ℕ) → isNone (firstFrom limit s l) ≡ true → (i : ℕ) → i < length l → getD l i 0 < limit
+  pub none-each-below : (l : List ℕ) (s : ℕ) → isNone (firstFrom limit s l) ≡ true → EachBelow limit l
   unfolding firstFrom
-  found-none [] s e i h = absurd (omega arith)
-  found-none (x ∷ l) s e i h = go (found-none l (suc s)) (ltb x limit) refl e i h
+  none-each-below [] s e = λ i h. absurd (omega arith)
+  none-each-below (x ∷ l) s e = go (none-each-below l (suc s)) (ltb x limit) refl e
     where
-      go : (isNone (firstFrom limit (suc s) l) ≡ true → (i : ℕ) → i < length l → getD l i 0 < limit) → (b : Bool) → ltb x limit ≡ b
-          → isNone (cond b (firstFrom limit (suc s) l) (some s)) ≡ true → (i : ℕ) → i < suc (length l) → getD (x ∷ l) i 0 < limit
+      go : (isNone (firstFrom limit (suc s) l) ≡ true → EachBelow limit l) → (b : Bool) → ltb x limit ≡ b → isNone (cond b (firstFrom limit (suc s) l) (some s)) ≡ true → EachBelow limit (x ∷ l)
       go ih true d f zero h = ltb-true x limit d
       go ih true d f (suc i) h = ih f i (le-of-suc-le-suc h)
-      go ih false d f i h = absurd (let z : _≡_ {A = ℕ} 0 1 = cc in omega arith)
+      go ih false d f i h = absurd (false≢true f)
 
-  pub none-found : (l : List ℕ) (s : ℕ) → ((i : ℕ) → i < length l → getD l i 0 < limit) → firstFrom limit s l ≡ none
+  pub each-below-none : (l : List ℕ) (s : ℕ) → EachBelow limit l → firstFrom limit s l ≡ none
   unfolding firstFrom
-  none-found [] s h = refl
-  none-found (x ∷ l) s h = rw (lt-ltb x limit (h 0 (omega arith))) (none-found l (suc s) (λ i m. h (suc i) (suc-le-suc m)))
+  each-below-none [] s h = refl
+  each-below-none (x ∷ l) s h = rw (lt-ltb x limit (h 0 (omega arith))) (each-below-none l (suc s) (λ i m. h (suc i) (suc-le-suc m)))
 
 pub within-true : (a b x : ℕ) → within a b x ≡ true → (a ≤ x) × (x ≤ b)
 within-true a b x h = go (leb a x) (leb x b) (leb-true a x) (leb-true x b) h
   where
     go : {A B : Type 0} (s t : Bool) → (s ≡ true → A) → (t ≡ true → B) → s && t ≡ true → A × B
     go true t f g e = (f refl, g e)
-    go false t f g e = absurd (let z : _≡_ {A = ℕ} 0 1 = cc in omega arith)
+    go false t f g e = absurd (false≢true e)
 
 -- ---- one check after the other
 

@@ -1,4 +1,5 @@
 pub mod Search
 pub mod Checks
+pub mod Width
 pub mod Answers
 pub mod Laws

@@ -8,11 +8,11 @@ use borrow.Author.Tests.{leb-true, ltb-true, eqb-true, eq-eqb}
 use lib.Bits.{bitXor, xor-lt}
 use lib.ListN.{length, getD, take, length-append, List·getD-append}
 use lib.Seq.{getD-at}
-use Rattle.residue.specs.Residue.{Residues}
+use Rattle.residue.specs.Residue.{EachBelow}
 use Rattle.buffers.specs.Overwrite.{overwrite}
 use Rattle.buffers.specs.Laws.{take-front}
 use Rattle.checks.specs.Checks.{Check, Verdict, accepted, refused, verdict, Outcome, settled, isNone}
-use Rattle.checks.specs.Laws.{Hold, accepts, accepted-holds, settled-answer, found-none, none-found, within-true}
+use Rattle.checks.specs.Laws.{Hold, accepts, accepted-holds, settled-answer, none-each-below, each-below-none, within-true}
 use Rattle.masking.specs.Sharing.{xorAll, maskShares, maskChecks, masked, openStringChecks, openedString}
 use Rattle.masking.specs.Xor.{xorAll-append, xorAll-one, xorAll-lt, xor-twice}
 
@@ -27,7 +27,7 @@ module _ (v : ℕ) (masks : List ℕ) where
   length-maskShares = length-append masks (bitXor v (xorAll masks) ∷ [])
 
   -- of a value and masks of k bits, the shares have k bits
-  pub maskShares-narrow : (k : ℕ) → v < 2 ^ k → Residues (2 ^ k) masks → Residues (2 ^ k) (maskShares v masks)
+  pub maskShares-narrow : (k : ℕ) → v < 2 ^ k → EachBelow (2 ^ k) masks → EachBelow (2 ^ k) (maskShares v masks)
   unfolding maskShares
   maskShares-narrow k h m i l = go (decLt i (length masks))
     where
@@ -59,8 +59,8 @@ module _ (n k v : ℕ) (masks out : List ℕ) (h : masked n k v masks out .answe
       ap (λ (r : Verdict ℕ). take n (settled r out (overwrite out 0 (maskShares v masks)) .buffers)) accepted-call
       ∙ ap (λ (m : ℕ). take m (overwrite out 0 (maskShares v masks))) (sym count) ∙ take-front out (maskShares v masks)
 
-  narrow-shares : Residues (2 ^ k) (maskShares v masks)
-  narrow-shares = maskShares-narrow v masks k (ltb-true v (2 ^ k) (hold .1 .1 .0)) (found-none (2 ^ k) masks 0 (hold .1 .1 .1 .1 .0))
+  narrow-shares : EachBelow (2 ^ k) (maskShares v masks)
+  narrow-shares = maskShares-narrow v masks k (ltb-true v (2 ^ k) (hold .1 .1 .0)) (none-each-below (2 ^ k) masks 0 (hold .1 .1 .1 .1 .0))
 
   -- for every accepted call: opening the first n positions of the output
   pub mask-open : openedString n k (take n (masked n k v masks out .buffers)) ≡ accepted v
@@ -68,5 +68,5 @@ module _ (n k v : ℕ) (masks out : List ℕ) (h : masked n k v masks out .answe
   mask-open =
       rw shares (accepts (xorAll (maskShares v masks)) (openStringChecks n k (maskShares v masks)) (
         hold .0,
-        (hold .1 .0, (eq-eqb (length (maskShares v masks)) n count, (ap isNone (none-found (2 ^ k) (maskShares v masks) 0 narrow-shares), tt))),
+        (hold .1 .0, (eq-eqb (length (maskShares v masks)) n count, (ap isNone (each-below-none (2 ^ k) (maskShares v masks) 0 narrow-shares), tt))),
       ) ∙ ap accepted (xorAll-maskShares v masks))

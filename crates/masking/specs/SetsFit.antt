@@ -1,6 +1,6 @@
 -- Every published parameter set passes checks 2 and 3, by one test that is computed over the whole table.
 use mathlib.Core.Path.{_≡_, refl, sym, ap, _∙_}
-use mathlib.Core.Bool.{Bool, true, false, _&&_}
+use mathlib.Core.Bool.{Bool, true, false, _&&_, false≢true}
 use mathlib.Core.List.{List, [], _∷_}
 use Prim.Native.Nat.{ℕ, zero, suc, _+_, _*_, _-_, _<_, _≤_}
 use native.Mathlib.Nat.{not-suc-le-zero, le-of-suc-le-suc}
@@ -25,7 +25,7 @@ all-fit = refl
 
 both : (s t : Bool) → s && t ≡ true → (s ≡ true) × (t ≡ true)
 both true t e = (refl, e)
-both false t e = absurd (let z : _≡_ {A = ℕ} 0 1 = cc in omega arith)
+both false t e = absurd (false≢true e)
 
 -- and what it says of each entry
 every-at : (l : List ParameterSet) → every l ≡ true → (d : ParameterSet) (i : ℕ) → i < length l → fits (getD l i d) ≡ true

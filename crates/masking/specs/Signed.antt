@@ -1,9 +1,10 @@
 -- What is read off an opened residue and off two opened strings (document 01: the centred value, the plain weight difference).
 use mathlib.Core.Bool.{cond}
 use mathlib.Core.List.{List, [], _∷_}
-use Prim.Native.Nat.{ℕ, zero, suc, _+_, _*_, _/_, _%_, _^_}
+use Prim.Native.Nat.{ℕ, zero, suc, _+_, _*_, _^_}
 use lib.Dec.{ltb}
 use lib.IntN.{ℤ, pos, _-ℤ_}
+use Rattle.checks.specs.Width.{bit}
 use Rattle.checks.specs.Checks.{Check, Verdict, verdict, stringLength, modulusAtLeast, below}
 
 -- r where 2r is below q, else r - q
@@ -15,10 +16,6 @@ centreChecks q r = modulusAtLeast 3 q ∷ below 17 0 q r ∷ []
 
 unfoldable pub centred : ℕ → ℕ → Verdict ℤ
 centred q r = verdict (centreChecks q r) (centredValue q r)
-
--- bit i of x
-abbrev pub bit : ℕ → ℕ → ℕ
-bit x i = x / 2 ^ i % 2
 
 -- the sum of the bits of x below bit k
 unfoldable pub bitSum : ℕ → ℕ → ℕ

@@ -1,23 +1,19 @@
 -- The count of ones of a number is the sum of its bits.
 use mathlib.Core.Path.{_≡_, refl, sym, ap, _∙_}
 use Prim.Native.Nat.{ℕ, zero, suc, _+_, _/_, _%_, _^_, _<_, _≤_}
-use native.Mathlib.Nat.{div-one}
 use native.Mathlib.Omega.{arith}
 use lib.Count.{ones, ones-step, ones-le}
-use lib.Pow.{shr-shr, pow-mono}
-use Rattle.masking.specs.Signed.{bit, bitSum, weight}
-
--- bit i + 1 is bit i of the half
-bit-half : (x i : ℕ) → bit x (suc i) ≡ bit (x / 2) i
-bit-half x i =
-    let e : 1 + i ≡ suc i = omega arith in
-    ap (λ (m : ℕ). m % 2) (sym (shr-shr x 1 i ∙ ap (λ (m : ℕ). x / 2 ^ m) e))
+use lib.Pow.{pow-mono}
+use Rattle.checks.specs.Width.{bit, bit-lowest, bit-shift}
+use Rattle.masking.specs.Signed.{bitSum, weight}
 
 -- the lowest bit, and those of the half
 bitSum-half : (k x : ℕ) → bitSum (suc k) x ≡ x % 2 + bitSum k (x / 2)
 unfolding bitSum
-bitSum-half zero x = omega (arith, div-one x)
-bitSum-half (suc k) x = omega (arith, bitSum-half k x, bit-half x k)
+bitSum-half zero x = omega (arith, bit-lowest x)
+bitSum-half (suc k) x =
+    let e : 1 + k ≡ suc k = omega arith in
+    omega (arith, bitSum-half k x, bit-shift x 1 k, ap (bit x) e)
 
 pub ones-bits : (k x : ℕ) → x < 2 ^ k → ones x ≡ bitSum k x
 unfolding bitSum ones

@@ -7,7 +7,7 @@ use lib.Arith.{bin-ind}
 use lib.Bits.{bitXor, xor-add-and, xor-shr, xor-comm, xor-self, xor-zero-r, xor-lt}
 use lib.ListN.{length, getD, take, drop, take-append-drop}
 use lib.Pow.{pow-pos}
-use Rattle.residue.specs.Residue.{reduce, add, Residues}
+use Rattle.residue.specs.Residue.{reduce, add, EachBelow}
 use Rattle.residue.specs.Laws.{add-assoc, add-reduce-left, add-reduce-right}
 use Rattle.masking.specs.Sharing.{xorAll}
 
@@ -53,7 +53,7 @@ pub xorAll-split : (h : ℕ) (l : List ℕ) → bitXor (xorAll (take h l)) (xorA
 xorAll-split h l = sym (xorAll-append (take h l) (drop h l)) ∙ ap xorAll (take-append-drop h l)
 
 -- the XOR of numbers of k bits has k bits
-pub xorAll-lt : (k : ℕ) (l : List ℕ) → Residues (2 ^ k) l → xorAll l < 2 ^ k
+pub xorAll-lt : (k : ℕ) (l : List ℕ) → EachBelow (2 ^ k) l → xorAll l < 2 ^ k
 unfolding xorAll
 xorAll-lt k [] h = pow-pos k
 xorAll-lt k (x ∷ l) h = xor-lt k x (xorAll l) (h 0 (omega arith)) (xorAll-lt k l (λ i m. h (suc i) (suc-le-suc m)))

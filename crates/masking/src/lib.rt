@@ -8,7 +8,7 @@ use residue::Word;
 ghost use mathlib.Core.Path.{_≡_};
 ghost use Prim.Native.Nat.{_^_, _<_};
 ghost use lib.ListN.{length};
-ghost use Rattle.residue.specs.Residue.{reduce, Residues};
+ghost use Rattle.residue.specs.Residue.{reduce, EachBelow};
 ghost use Rattle.residue.specs.Sum.{total};
 ghost use Rattle.buffers.specs.Overwrite.{overwrite};
 ghost use Rattle.checks.specs.Checks.{checked};
@@ -161,7 +161,7 @@ fn check_open_residue(n: usize, q: Word, shares: &[Word]) -> Checked
 
 // The sum of a list modulo q, by the same rule as the XOR.
 fn sum_all(list: &[Word], q: Word) -> Word
-    requires { ⌜ (0 < length (now list)) × (0 < q) × (q < 2 ^ 31) × Residues q (now list) ⌝ }
+    requires { ⌜ (0 < length (now list)) × (0 < q) × (q < 2 ^ 31) × EachBelow q (now list) ⌝ }
     ensures { λ r. ⌜ r ≡ reduce q (total (now (list .entry))) ⌝ }
 {
     let n = list.len();

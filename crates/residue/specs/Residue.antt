@@ -25,6 +25,6 @@ module _ (q : ℕ) where
   reduceℤ (pos a) = reduce a
   reduceℤ (negsuc a) = neg (suc a)
 
-  -- every number of the list is a residue: below q
-  abbrev pub Residues : List ℕ → Type 0
-  Residues l = (i : ℕ) → i < length l → getD l i 0 < q
+  -- each number of the list is below q
+  abbrev pub EachBelow : List ℕ → Type 0
+  EachBelow l = (i : ℕ) → i < length l → getD l i 0 < q

@@ -6,7 +6,7 @@ use native.Mathlib.Nat as N
 use native.Mathlib.Omega.{arith}
 use lib.ListN.{length, getD, take, drop, length-take, length-drop, take-append-drop}
 use lib.Seq.{getD-take, getD-drop}
-use Rattle.residue.specs.Residue.{reduce, add, mul, neg, Residues}
+use Rattle.residue.specs.Residue.{reduce, add, mul, neg, EachBelow}
 use Rattle.residue.specs.Laws.{reduce-zero, reduce-reduce, reduce-plus, reduce-add, add-reduce-left, add-reduce-right, add-comm, add-assoc, add-left-comm, zero-add, add-zero, mul-add, mul-zero, neg-zero, neg-add}
 
 -- the sum of a list of numbers, not reduced
@@ -26,11 +26,11 @@ total-one a = N.add-zero a
 -- ---- a list in two parts
 
 module _ (q h : ℕ) (l : List ℕ) where
-  pub residues-take : Residues q l → Residues q (take h l)
-  residues-take r i m = rw (getD-take h l i 0 (omega (arith, length-take h l))) (r i (omega (arith, length-take h l)))
+  pub each-below-take : EachBelow q l → EachBelow q (take h l)
+  each-below-take r i m = rw (getD-take h l i 0 (omega (arith, length-take h l))) (r i (omega (arith, length-take h l)))
 
-  pub residues-drop : Residues q l → Residues q (drop h l)
-  residues-drop r i m = rw (getD-drop h l i 0) (r (h + i) (omega (arith, length-drop h l)))
+  pub each-below-drop : EachBelow q l → EachBelow q (drop h l)
+  each-below-drop r i m = rw (getD-drop h l i 0) (r (h + i) (omega (arith, length-drop h l)))
 
   pub total-split : add q (reduce q (total (take h l))) (reduce q (total (drop h l))) ≡ reduce q (total l)
   total-split =

@@ -6,7 +6,7 @@ use borrow.Author.Needs.{needs}
 use lib.ListN.{length, getD}
 use Rattle.residue.specs.Residue.{reduce, add}
 use Rattle.residue.specs.Laws.{reduce-small, reduce-lt}
-use Rattle.residue.specs.Sum.{total, total-one, total-split, residues-take, residues-drop}
+use Rattle.residue.specs.Sum.{total, total-one, total-split, each-below-take, each-below-drop}
 use Rattle.masking.proofs.Halves.{single, half, length-first, second, length-second}
 use Prim.Native.Nat.{ℕ, _<_}
 use borrow.Fn.Kinds.{In}
@@ -64,7 +64,7 @@ sum-all-sum-all-requires : (t : ℕ) → sum-all-lts.Need-sum-all-requires (
 sum-all-sum-all-requires t c κs =
     let a = c .before .before .before .args in
     let n = length-first (a .list .now) in
-    (omega arith, (omega arith, omega arith, omega arith, residues-take (a .q) (half (a .list .now)) (a .list .now) (c .before .before .before .pre .1 .3)))
+    (omega arith, (omega arith, omega arith, omega arith, each-below-take (a .q) (half (a .list .now)) (a .list .now) (c .before .before .before .pre .1 .3)))
 
 sum-all-mul-sum-all : (t : ℕ) → sum-all-lts.Need-mul-sum-all (
   sum-all-below t,
@@ -107,7 +107,7 @@ sum-all-sum-all-requires-2 : (t : ℕ) → sum-all-lts.Need-sum-all-requires-2 (
 sum-all-sum-all-requires-2 t c κs =
     let a = c .before .before .before .before .before .args in
     let n = length-second (a .list .now) in
-    (omega arith, (omega arith, omega arith, omega arith, rw (second (a .list .now)) (residues-drop (a .q) (half (a .list .now)) (a .list .now) (c .before .before .before .before .before .pre .1 .3))))
+    (omega arith, (omega arith, omega arith, omega arith, rw (second (a .list .now)) (each-below-drop (a .q) (half (a .list .now)) (a .list .now) (c .before .before .before .before .before .pre .1 .3))))
 
 sum-all-add-words-requires : (t : ℕ) → sum-all-lts.Need-add-words-requires (
   sum-all-below t,

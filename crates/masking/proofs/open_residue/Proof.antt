@@ -5,7 +5,7 @@ use native.Mathlib.Omega.{arith}
 use borrow.Author.Tests.{leb-true, eqb-true}
 use lib.ListN.{length}
 use Rattle.checks.specs.Checks.{accepted}
-use Rattle.checks.specs.Laws.{within-true, found-none, checks-hold, checks-passed, checks-failed}
+use Rattle.checks.specs.Laws.{within-true, none-each-below, checks-hold, checks-passed, checks-failed}
 use Rattle.masking.specs.Sharing.{openedResidue}
 use borrow.Author.Needs.{needs}
 use Rattle.masking.proofs.open_residue.Statement.{statement}
@@ -30,7 +30,7 @@ sum-all-requires c κs =
     let h = checks-hold _ _ (c .before .before .check-open-residue .ensures) (c .enum-told .given .1) in
     let e : length (a .shares .now) ≡ a .n = eqb-true _ _ (h .1 .1 .0) in
     let m : 3 ≤ a .q = leb-true _ _ (h .1 .0) in
-    (omega (arith, within-true 2 8 (a .n) (h .0)), omega arith, omega arith, found-none (a .q) (a .shares .now) 0 (h .1 .1 .1 .0))
+    (omega (arith, within-true 2 8 (a .n) (h .0)), omega arith, omega arith, none-each-below (a .q) (a .shares .now) 0 (h .1 .1 .1 .0))
 
 returns-2 : tie.Need-returns-2
 unfolding openedResidue
