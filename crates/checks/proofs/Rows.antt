@@ -1,5 +1,5 @@
 -- A search over the bits and, within a bit, over its words is one over the words in their order: word i of bit b has position b * per + i.
-use mathlib.Core.Path.{_≡_, sym, ap, _∙_, subst}
+use mathlib.Core.Path.{_≡_, ap, subst}
 use mathlib.Core.List.{List}
 use mathlib.Core.Option.{none, some}
 use Prim.Native.Nat.{ℕ, _+_, _*_, _<_, _≤_}

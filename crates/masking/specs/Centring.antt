@@ -1,10 +1,10 @@
 -- A sample, reduced modulo q and centred, is the sample again.
-use mathlib.Core.Path.{_≡_, sym, ap, _∙_}
+use mathlib.Core.Path.{_≡_, ap, _∙_}
 use Prim.Native.Nat.{ℕ, suc, _+_, _*_, _-_, _<_, _≤_}
 use native.Mathlib.Omega.{arith}
 use borrow.Author.Tests.{lt-ltb, le-ltb, le-leb}
 use lib.IntN.{ℤ, pos, negsuc, natAbs}
-use Rattle.residue.specs.Residue.{reduce, neg, reduceℤ}
+use Rattle.residue.specs.Residue.{neg, reduceℤ}
 use Rattle.residue.specs.Laws.{reduce-small, reduce-lt, reduce-neg, neg-small}
 use Rattle.residue.specs.Integers.{minus-below}
 use Rattle.checks.specs.Checks.{accepted}

@@ -1,17 +1,17 @@
 -- Masking a value and opening the shares gives the value.
-use mathlib.Core.Path.{_≡_, refl, sym, ap, _∙_}
+use mathlib.Core.Path.{_≡_, sym, ap, _∙_}
 use mathlib.Core.List.{List, [], _∷_, _++_}
-use Prim.Native.Nat.{ℕ, _+_, _-_, _^_, _<_, _≤_}
+use Prim.Native.Nat.{ℕ, _+_, _-_, _^_, _<_}
 use native.Mathlib.Omega.{arith}
 use native.Mathlib.Decide.{decLt}
-use borrow.Author.Tests.{leb-true, ltb-true, eqb-true, eq-eqb}
+use borrow.Author.Tests.{ltb-true, eqb-true, eq-eqb}
 use lib.Bits.{bitXor, xor-lt}
 use lib.ListN.{length, getD, take, length-append, List·getD-append}
 use lib.Seq.{getD-at}
 use Rattle.residue.specs.Residue.{EachBelow}
 use Rattle.buffers.specs.Overwrite.{overwrite}
 use Rattle.buffers.specs.Laws.{take-front}
-use Rattle.checks.specs.Checks.{Check, Verdict, accepted, refused, verdict, Outcome, settled, isNone}
+use Rattle.checks.specs.Checks.{Verdict, accepted, verdict, settled, isNone}
 use Rattle.checks.specs.Laws.{Hold, accepts, accepted-holds, settled-answer, none-each-below, each-below-none, within-true}
 use Rattle.masking.specs.Sharing.{xorAll, maskShares, maskChecks, masked, openStringChecks, openedString}
 use Rattle.masking.specs.Xor.{xorAll-append, xorAll-one, xorAll-lt, xor-twice}

@@ -1,12 +1,12 @@
 -- Every published parameter set passes checks 2 and 3, by one test that is computed over the whole table.
-use mathlib.Core.Path.{_≡_, refl, sym, ap, _∙_}
+use mathlib.Core.Path.{_≡_, refl, sym, _∙_}
 use mathlib.Core.Bool.{Bool, true, false, _&&_, false≢true}
 use mathlib.Core.List.{List, [], _∷_}
 use Prim.Native.Nat.{ℕ, zero, suc, _+_, _*_, _-_, _<_, _≤_}
 use native.Mathlib.Nat.{not-suc-le-zero, le-of-suc-le-suc}
 use native.Mathlib.Omega.{arith}
 use lib.ListN.{length, getD}
-use Rattle.checks.specs.Checks.{Check, Verdict, accepted, verdict, stringLength, modulusAtLeast}
+use Rattle.checks.specs.Checks.{accepted, stringLength, modulusAtLeast}
 use Rattle.checks.specs.Laws.{Hold, accepts, accepted-holds, within-true}
 use Rattle.masking.specs.declared.ParameterSet.{ParameterSet}
 use Rattle.masking.specs.Sets.{set, sets, setChecks, parameterSet}

@@ -1,11 +1,11 @@
 -- Laws of the XOR of numbers and of lists.
 use mathlib.Core.Path.{_≡_, refl, sym, ap, _∙_}
 use mathlib.Core.List.{List, [], _∷_, _++_}
-use Prim.Native.Nat.{ℕ, zero, suc, suc-le-suc, _+_, _-_, _/_, _%_, _^_, _<_}
+use Prim.Native.Nat.{ℕ, suc, suc-le-suc, _+_, _-_, _/_, _^_, _<_}
 use native.Mathlib.Omega.{arith}
 use lib.Arith.{bin-ind}
 use lib.Bits.{bitXor, xor-add-and, xor-shr, xor-comm, xor-self, xor-zero-r, xor-lt}
-use lib.ListN.{length, getD, take, drop, take-append-drop}
+use lib.ListN.{take, drop, take-append-drop}
 use lib.Pow.{pow-pos}
 use Rattle.residue.specs.Residue.{reduce, add, EachBelow}
 use Rattle.residue.specs.Laws.{add-assoc, add-reduce-left, add-reduce-right}

@@ -171,7 +171,7 @@ module _ (q : ℕ) where
     add-sub a b = rw (add-left-comm, add-neg, add-zero)
 
     pub sub-add : (a b : ℕ) → add q (sub q a b) b ≡ reduce q a
-    sub-add a b = rw add-comm (add-sub b a)
+    sub-add a b = add-comm (sub q a b) b ∙ add-sub b a
 
     pub add-sub-cancel : (a b : ℕ) → sub q (add q a b) b ≡ reduce q a
     add-sub-cancel a b = rw (add-assoc, add-neg, add-zero)

@@ -7,7 +7,7 @@ use native.Mathlib.Omega.{arith}
 use lib.ListN.{length, getD, take, drop, length-take, length-drop, take-append-drop}
 use lib.Seq.{getD-take, getD-drop}
 use Rattle.residue.specs.Residue.{reduce, add, mul, neg, EachBelow}
-use Rattle.residue.specs.Laws.{reduce-zero, reduce-reduce, reduce-plus, reduce-add, add-reduce-left, add-reduce-right, add-comm, add-assoc, add-left-comm, zero-add, add-zero, mul-add, mul-zero, neg-zero, neg-add}
+use Rattle.residue.specs.Laws.{reduce-zero, reduce-plus, reduce-add, add-reduce-left, add-reduce-right, add-comm, add-assoc, add-left-comm, zero-add, add-zero, mul-add, mul-zero, neg-zero, neg-add}
 
 -- the sum of a list of numbers, not reduced
 unfoldable pub total : List ℕ → ℕ

@@ -1,6 +1,5 @@
 -- The shift is exact for k up to 16.
 use mathlib.Core.Path.{ap}
-use Prim.Native.Nat.{ℕ}
 use lib.Dec.{ltb}
 use borrow.Author.Needs.{needs}
 use Rattle.checks.proofs.Shift.{one-shifted}

@@ -1,6 +1,5 @@
 -- The sum less q, modulo q, is the sum modulo q.
 use mathlib.Core.Path.{_∙_}
-use Prim.Native.Nat.{_+_}
 use borrow.Author.Needs.{needs}
 use Rattle.residue.specs.Laws.{sub-self}
 use Rattle.residue.proofs.add.Statement.{statement}
