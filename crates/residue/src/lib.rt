@@ -1,4 +1,4 @@
-// Arithmetic modulo q, with no division, remainder, comparison or branch on the operands.
+// Arithmetic modulo q. Sums and differences have no division, remainder, comparison or branch on their operands.
 // Every cast to or from Word stands here.
 ghost use mathlib.Core.Path.{_≡_};
 ghost use Prim.Native.Nat.{_+_, _^_, _≤_, _<_};

@@ -10,16 +10,16 @@ use borrow.Author.Needs.{needs}
 use Rattle.checks.proofs.check_parameters.Statement.{statement}
 use Rattle.checks.proofs.check_parameters.Tie as tie
 
-abbrev asked : tie.Start → List Check
-asked s = parameterChecks (s .args .n) (s .args .k) (s .args .q)
+abbrev checks : tie.Start → List Check
+checks s = parameterChecks (s .args .n) (s .args .k) (s .args .q)
 
-past1 : (c : tie.Else1) → Past (asked (c .before .before)) 1
+past1 : (c : tie.Else1) → Past (checks (c .before .before)) 1
 past1 c = pass tt _ _ (test-holds (c .before .within .ensures) (c .if1 .left))
 
-past2 : (c : tie.Else2) → Past (asked (c .before .before .before .before)) 2
+past2 : (c : tie.Else2) → Past (checks (c .before .before .before .before)) 2
 past2 c = past1 (c .before .before) ∙ pass tt _ _ (test-holds (c .before .within2 .ensures) (c .if2 .left))
 
-past3 : (c : tie.Else3) → Past (asked (c .before .before .before .before .before .before)) 3
+past3 : (c : tie.Else3) → Past (checks (c .before .before .before .before .before .before)) 3
 past3 c =
     let a = c .before .before .before .before .before .before .args in
     past2 (c .before .before) ∙ pass tt _ _ (le-leb (2 * a .k + 1) (a .q) (omega (arith, c .before .to-usize .ensures, c .if3 .left)))

@@ -9,13 +9,13 @@ use Rattle.masking.specs.Signed.{centreChecks}
 use Rattle.masking.proofs.check_centre.Statement.{statement}
 use Rattle.masking.proofs.check_centre.Tie as tie
 
-abbrev asked : tie.Start → List Check
-asked s = centreChecks (s .args .q) (s .args .r)
+abbrev checks : tie.Start → List Check
+checks s = centreChecks (s .args .q) (s .args .r)
 
-past1 : (c : tie.Else1) → Past (asked (c .before)) 1
+past1 : (c : tie.Else1) → Past (checks (c .before)) 1
 past1 c = pass tt _ _ (le-leb _ _ (c .if1 .left))
 
-past2 : (c : tie.Else2) → Past (asked (c .before .before)) 2
+past2 : (c : tie.Else2) → Past (checks (c .before .before)) 2
 past2 c = past1 (c .before) ∙ pass tt _ _ (lt-ltb _ _ (c .if2 .left))
 
 refuse-requires : tie.Need-refuse-requires

@@ -11,25 +11,25 @@ use Rattle.masking.specs.Sharing.{maskChecks}
 use Rattle.masking.proofs.check_mask.Statement.{statement}
 use Rattle.masking.proofs.check_mask.Tie as tie
 
-abbrev asked : tie.Start → List Check
-asked s = maskChecks (s .args .n) (s .args .k) (s .args .value) (s .args .masks .now) (s .args .room)
+abbrev checks : tie.Start → List Check
+checks s = maskChecks (s .args .n) (s .args .k) (s .args .value) (s .args .masks .now) (s .args .room)
 
-past1 : (c : tie.Else1) → Past (asked (c .before .before .before)) 1
+past1 : (c : tie.Else1) → Past (checks (c .before .before .before)) 1
 past1 c = pass tt _ _ (test-holds (c .before .within .ensures) (c .if1 .left))
 
-past2 : (c : tie.Else2) → Past (asked (c .before .before .before .before .before)) 2
+past2 : (c : tie.Else2) → Past (checks (c .before .before .before .before .before)) 2
 past2 c = past1 (c .before .before) ∙ pass tt _ _ (test-holds (c .before .within2 .ensures) (c .if2 .left))
 
-past3 : (c : tie.Else3) → Past (asked (c .before .before .before .before .before .before .before)) 3
+past3 : (c : tie.Else3) → Past (checks (c .before .before .before .before .before .before .before)) 3
 past3 c = past2 (c .before .before) ∙ pass tt _ _ (test-holds (c .before .is-narrow .ensures) (c .if3 .left))
 
-past4 : (c : tie.Else4) → Past (asked (c .before .before .before .before .before .before .before .before)) 4
+past4 : (c : tie.Else4) → Past (checks (c .before .before .before .before .before .before .before .before)) 4
 past4 c = past3 (c .before) ∙ pass tt _ _ (eq-eqb _ _ (c .if4 .left))
 
-past5 : (c : tie.After-enum-told) → Past (asked (c .before .before .before .before .before .before .before .before .before .before .before)) 5
+past5 : (c : tie.After-enum-told) → Past (checks (c .before .before .before .before .before .before .before .before .before .before .before)) 5
 past5 c = past4 (c .before .before .before) ∙ pass-none tt _ _ _ _ (search-none (c .before .before .first-wide .ensures) (c .enum-told .given .1))
 
-past6 : (c : tie.Else5) → Past (asked (c .before .before .before .before .before .before .before .before .before .before .before .before)) 6
+past6 : (c : tie.Else5) → Past (checks (c .before .before .before .before .before .before .before .before .before .before .before .before)) 6
 past6 c = past5 (c .before) ∙ pass tt _ _ (le-leb _ _ (c .if5 .left))
 
 -- check 2 held

@@ -1,9 +1,9 @@
 -- One answer for each check: those before it held, and it fails.
 use mathlib.Core.Path.{_≡_, sym, ap, _∙_}
 use mathlib.Core.List.{List}
-use Prim.Native.Nat.{_*_}
+use Prim.Native.Nat.{ℕ, _*_}
 use native.Mathlib.Omega.{arith}
-use lib.ListN.{take}
+use lib.ListN.{length, take}
 use lib.Seq.{take-all}
 use borrow.Author.Tests.{le-leb, lt-leb, eq-eqb, ne-eqb}
 use borrow.Author.Needs.{needs}
@@ -14,28 +14,26 @@ use Rattle.masking.specs.Sharing.{openResidueChecks}
 use Rattle.masking.proofs.check_open_residue.Statement.{statement}
 use Rattle.masking.proofs.check_open_residue.Tie as tie
 
-abbrev asked : tie.Start → List Check
-asked s = openResidueChecks (s .args .n) (s .args .q) (s .args .shares .now)
+abbrev checks : tie.Start → List Check
+checks s = openResidueChecks (s .args .n) (s .args .q) (s .args .shares .now)
 
-past1 : (c : tie.Else1) → Past (asked (c .before .before .before)) 1
+past1 : (c : tie.Else1) → Past (checks (c .before .before .before)) 1
 past1 c = pass tt _ _ (test-holds (c .before .within .ensures) (c .if1 .left))
 
-past2 : (c : tie.Else2) → Past (asked (c .before .before .before .before)) 2
+past2 : (c : tie.Else2) → Past (checks (c .before .before .before .before)) 2
 past2 c = past1 (c .before) ∙ pass tt _ _ (le-leb _ _ (c .if2 .left))
 
-past3 : (c : tie.Else3) → Past (asked (c .before .before .before .before .before)) 3
+past3 : (c : tie.Else3) → Past (checks (c .before .before .before .before .before)) 3
 past3 c = past2 (c .before) ∙ pass tt _ _ (eq-eqb _ _ (c .if3 .left))
 
--- all shares are judged
-judged : (c : tie.Else3) → firstNotBelow (c .before .before .before .before .before .args .q) (take (1 * c .before .before .before .before .before .args .n) (c .before .before .before .before .before .args .shares .now)) ≡ firstNotBelow (c .before .before .before .before .before .args .q) (c .before .before .before .before .before .args .shares .now)
-judged c =
-    let a = c .before .before .before .before .before .args in
-    ap (firstNotBelow (a .q)) (take-all (1 * a .n) (a .shares .now) (omega (arith, c .if3 .left)))
+-- one bit of n words is the whole list
+whole : (q n : ℕ) (l : List ℕ) → length l ≡ n → firstNotBelow q (take (1 * n) l) ≡ firstNotBelow q l
+whole q n l e = ap (firstNotBelow q) (take-all (1 * n) l (omega arith))
 
-past4 : (c : tie.After-enum-told) → Past (asked (c .before .before .before .before .before .before .before .before)) 4
+past4 : (c : tie.After-enum-told) → Past (checks (c .before .before .before .before .before .before .before .before)) 4
 past4 c =
     past3 (c .before .before .before)
-    ∙ pass-none tt _ _ _ _ (sym (judged (c .before .before .before)) ∙ search-none (c .before .before .first-not-below .ensures) (c .enum-told .given .1))
+    ∙ pass-none tt _ _ _ _ (sym (whole _ _ _ (c .before .before .before .if3 .left)) ∙ search-none (c .before .before .first-not-below .ensures) (c .enum-told .given .1))
 
 within-requires : tie.Need-within-requires
 within-requires c κs = search needs
@@ -71,7 +69,7 @@ returns-4 : tie.Need-returns-4
 returns-4 c =
     c .refuse4 .ensures
     ∙ sym (past3 (c .before .before .before .before .before)
-    ∙ fail-some tt _ _ _ _ _ (sym (judged (c .before .before .before .before .before)) ∙ search-some (c .before .before .before .before .first-not-below .ensures) (c .before .before .i .given .1)))
+    ∙ fail-some tt _ _ _ _ _ (sym (whole _ _ _ (c .before .before .before .before .before .if3 .left)) ∙ search-some (c .before .before .before .before .first-not-below .ensures) (c .before .before .i .given .1)))
 
 enum-told : tie.Need-enum-told
 enum-told c = search needs

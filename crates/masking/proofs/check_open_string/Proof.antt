@@ -10,19 +10,19 @@ use Rattle.masking.specs.Sharing.{openStringChecks}
 use Rattle.masking.proofs.check_open_string.Statement.{statement}
 use Rattle.masking.proofs.check_open_string.Tie as tie
 
-abbrev asked : tie.Start → List Check
-asked s = openStringChecks (s .args .n) (s .args .k) (s .args .shares .now)
+abbrev checks : tie.Start → List Check
+checks s = openStringChecks (s .args .n) (s .args .k) (s .args .shares .now)
 
-past1 : (c : tie.Else1) → Past (asked (c .before .before .before)) 1
+past1 : (c : tie.Else1) → Past (checks (c .before .before .before)) 1
 past1 c = pass tt _ _ (test-holds (c .before .within .ensures) (c .if1 .left))
 
-past2 : (c : tie.Else2) → Past (asked (c .before .before .before .before .before)) 2
+past2 : (c : tie.Else2) → Past (checks (c .before .before .before .before .before)) 2
 past2 c = past1 (c .before .before) ∙ pass tt _ _ (test-holds (c .before .within2 .ensures) (c .if2 .left))
 
-past3 : (c : tie.Else3) → Past (asked (c .before .before .before .before .before .before)) 3
+past3 : (c : tie.Else3) → Past (checks (c .before .before .before .before .before .before)) 3
 past3 c = past2 (c .before) ∙ pass tt _ _ (eq-eqb _ _ (c .if3 .left))
 
-past4 : (c : tie.After-enum-told) → Past (asked (c .before .before .before .before .before .before .before .before .before)) 4
+past4 : (c : tie.After-enum-told) → Past (checks (c .before .before .before .before .before .before .before .before .before)) 4
 past4 c = past3 (c .before .before .before) ∙ pass-none tt _ _ _ _ (search-none (c .before .before .first-wide .ensures) (c .enum-told .given .1))
 
 -- check 2 held

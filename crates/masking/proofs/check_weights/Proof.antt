@@ -9,16 +9,16 @@ use Rattle.masking.specs.Signed.{weightChecks}
 use Rattle.masking.proofs.check_weights.Statement.{statement}
 use Rattle.masking.proofs.check_weights.Tie as tie
 
-abbrev asked : tie.Start → List Check
-asked s = weightChecks (s .args .k) (s .args .x) (s .args .y)
+abbrev checks : tie.Start → List Check
+checks s = weightChecks (s .args .k) (s .args .x) (s .args .y)
 
-past1 : (c : tie.Else1) → Past (asked (c .before .before)) 1
+past1 : (c : tie.Else1) → Past (checks (c .before .before)) 1
 past1 c = pass tt _ _ (test-holds (c .before .within .ensures) (c .if1 .left))
 
-past2 : (c : tie.Else2) → Past (asked (c .before .before .before .before)) 2
+past2 : (c : tie.Else2) → Past (checks (c .before .before .before .before)) 2
 past2 c = past1 (c .before .before) ∙ pass tt _ _ (test-holds (c .before .is-narrow .ensures) (c .if2 .left))
 
-past3 : (c : tie.Else3) → Past (asked (c .before .before .before .before .before .before)) 3
+past3 : (c : tie.Else3) → Past (checks (c .before .before .before .before .before .before)) 3
 past3 c = past2 (c .before .before) ∙ pass tt _ _ (test-holds (c .before .is-narrow2 .ensures) (c .if3 .left))
 
 -- check 2 held
