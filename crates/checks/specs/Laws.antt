@@ -62,12 +62,16 @@ module _ (limit : ℕ) where
   each-below-none [] s h = refl
   each-below-none (x ∷ l) s h = rw (lt-ltb x limit (h 0 (omega arith))) (each-below-none l (suc s) (λ i m. h (suc i) (suc-le-suc m)))
 
+-- ---- tests of two parts
+
+pub and-true : (s t : Bool) → s && t ≡ true → (s ≡ true) × (t ≡ true)
+and-true true t e = (refl, e)
+and-true false t e = absurd (false≢true e)
+
 pub within-true : (a b x : ℕ) → within a b x ≡ true → (a ≤ x) × (x ≤ b)
-within-true a b x h = go (leb a x) (leb x b) (leb-true a x) (leb-true x b) h
-  where
-    go : {A B : Type 0} (s t : Bool) → (s ≡ true → A) → (t ≡ true → B) → s && t ≡ true → A × B
-    go true t f g e = (f refl, g e)
-    go false t f g e = absurd (false≢true e)
+within-true a b x h =
+    let e = and-true (leb a x) (leb x b) h in
+    (leb-true a x (e .0), leb-true x b (e .1))
 
 -- ---- one check after the other
 

@@ -31,9 +31,6 @@ module _ (v : ℕ) (masks : List ℕ) where
   unfolding maskShares
   maskShares-narrow k h m i l = go (decLt i (length masks))
     where
-      last : ℕ
-      last = bitXor v (xorAll masks)
-
       go : Dec (i < length masks) → getD (masks ++ (bitXor v (xorAll masks) ∷ [])) i 0 < 2 ^ k
       go (yes s) = rw (List·getD-append masks (bitXor v (xorAll masks) ∷ []) 0 i s) (m i s)
       go (no s) =

@@ -23,10 +23,10 @@ ones-bits zero x h =
 ones-bits (suc k) x h = ones-step x ∙ ap (λ (m : ℕ). x % 2 + m) (ones-bits k (x / 2) (omega arith)) ∙ sym (bitSum-half k x)
 
 module _ (k x : ℕ) (l : k ≤ 16) (h : x < 2 ^ k) where
-  -- a string of k bits has its weight in them
   pub ones-weight : ones x ≡ weight x
   ones-weight = ones-bits 16 x (omega (arith, pow-mono l))
 
+  -- a string of k bits has its weight in them
   pub weight-bits : weight x ≡ bitSum k x
   weight-bits = sym ones-weight ∙ ones-bits k x h
 
