@@ -30,7 +30,9 @@ past5 : (c : tie.After-enum-told) → Past (checks (c .before .before .before .b
 past5 c = past4 (c .before .before .before) ∙ pass-none tt _ _ _ _ (search-none (c .before .before .first-wide .ensures) (c .enum-told .given .1))
 
 past6 : (c : tie.Else5) → Past (checks (c .before .before .before .before .before .before .before .before .before .before .before .before)) 6
-past6 c = past5 (c .before) ∙ pass tt _ _ (le-leb _ _ (c .if5 .left))
+past6 c =
+    let a = c .before .before .before .before .before .before .before .before .before .before .before .before .args in
+    past5 (c .before) ∙ pass tt _ _ (le-leb (a .n) (a .room) (omega arith))
 
 -- check 2 held
 k-at-most : (c : tie.Else2) → c .before .before .before .before .before .args .k ≤ 16
