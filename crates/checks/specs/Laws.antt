@@ -13,7 +13,7 @@ use lib.ListN.{length, getD, drop, drop-of-length-le}
 use lib.Seq.{drop-cons}
 use Rattle.residue.specs.Residue.{EachBelow}
 use Rattle.checks.specs.Search.{firstFrom, firstNotBelow}
-use Rattle.checks.specs.Checks.{Check, Verdict, accepted, refused, verdict, checked, settled, within, isNone, allBelow}
+use Rattle.checks.specs.Checks.{Check, Verdict, accepted, refused, verdict, checked, settled, within, isNone, orZero, allBelow}
 use Rattle.checks.specs.Answers.{checkedReading, refusalReading, foundReading}
 use Rattle.checks.specs.declared.Refusal.{Refusal}
 use Rattle.checks.specs.declared.Checked.{Checked}
@@ -85,12 +85,10 @@ module _ {A : Type 0} (a : A) where
   fail c cs h = rw h
 
   pub pass-none : (code limit : ℕ) (l : List ℕ) (cs : List Check) → firstNotBelow limit l ≡ none → verdict (allBelow code limit l ∷ cs) a ≡ verdict cs a
-  unfolding verdict
-  pass-none code limit l cs h = rw h
+  pass-none code limit l cs h = pass (allBelow code limit l) cs (ap isNone h)
 
   pub fail-some : (code limit : ℕ) (l : List ℕ) (cs : List Check) (i : ℕ) → firstNotBelow limit l ≡ some i → verdict (allBelow code limit l ∷ cs) a ≡ refused code i
-  unfolding verdict
-  fail-some code limit l cs i h = rw h
+  fail-some code limit l cs i h = fail (allBelow code limit l) cs (ap isNone h) ∙ ap (refused code) (ap orZero h)
 
   pub pass-all : verdict [] a ≡ accepted a
   unfolding verdict

@@ -1,4 +1,4 @@
--- The published parameter sets (document 01).
+-- The published parameter sets (document 01): 1 and 2 ML-KEM (FIPS 203), 3 and 4 NewHope, 5 to 7 the Saber family.
 use mathlib.Core.List.{List, [], _∷_}
 use Prim.Native.Nat.{ℕ, _-_}
 use lib.ListN.{getD}

@@ -3,8 +3,7 @@ use mathlib.Core.List.{List, [], _∷_, _++_}
 use Prim.Native.Nat.{ℕ, _-_, _^_}
 use lib.Bits.{bitXor}
 use lib.ListN.{length}
-use Rattle.residue.specs.Residue.{reduce}
-use Rattle.residue.specs.Sum.{total}
+use Rattle.residue.specs.Residue.{reduce, total}
 use Rattle.buffers.specs.Overwrite.{overwrite}
 use Rattle.checks.specs.Checks.{Check, Verdict, verdict, Outcome, settled, shareCount, stringLength, modulusAtLeast, exactly, atLeast, allBelow, narrow, below}
 

@@ -8,8 +8,7 @@ use residue::Word;
 ghost use mathlib.Core.Path.{_≡_};
 ghost use Prim.Native.Nat.{_^_, _<_};
 ghost use lib.ListN.{length};
-ghost use Rattle.residue.specs.Residue.{reduce, EachBelow};
-ghost use Rattle.residue.specs.Sum.{total};
+ghost use Rattle.residue.specs.Residue.{reduce, total, EachBelow};
 ghost use Rattle.buffers.specs.Overwrite.{overwrite};
 ghost use Rattle.checks.specs.Checks.{checked};
 ghost use Rattle.checks.specs.Answers.{checkedReading, outcome};
@@ -84,7 +83,7 @@ fn write_shares(value: u16, masks: &[u16], out: &mut [u16])
     out[masks.len()] = last;
 }
 
-// Makes n Boolean shares of the value out of n - 1 masks, and answers n.
+// Makes n Boolean shares of the value out of n - 1 masks, and answers n. Output positions past n keep their content.
 // Refuses 1, 2, 12, 13, 14 with the mask's position, 10.
 pub fn mask(n: usize, k: usize, value: OpenedString, masks: &[u16], out: &mut [u16]) -> Answer
     ensures { λ r. ⌜ outcome r (now (out .exit)) ≡ masked n k (value .0) (now (masks .entry)) (now (out .entry)) ⌝ }

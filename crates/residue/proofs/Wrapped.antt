@@ -6,7 +6,7 @@ use native.Mathlib.Omega.{arith}
 use native.Mathlib.Decide.{decLe}
 use lib.Bits.{bitAnd, and-mask}
 use Rattle.residue.specs.Residue.{reduce, sub}
-use Rattle.residue.specs.Laws.{reduce-small, reduce-less, sub-plus}
+use Rattle.residue.specs.Laws.{reduce-small, reduce-modulus-plus, sub-plus}
 
 abbrev pub difference : ℕ → ℕ → ℕ
 difference a b = bitAnd (a + 4294967296 - b) 4294967295
@@ -47,7 +47,7 @@ module _ (a b q : ℕ) (h : b ≤ q) (l : a < q + b) (u : q < 2 ^ 31) where
           let m : a + (q - b) ≡ q + (a - b) = omega arith in
           let s : a - b < q = omega arith in
           let e : (d + q * (d / 2 ^ 31)) % 4294967296 ≡ a - b = omega (arith, above g) in
-          e ∙ sym (ap (reduce q) m ∙ reduce-less q (a - b) ∙ reduce-small q s)
+          e ∙ sym (ap (reduce q) m ∙ reduce-modulus-plus q (a - b) ∙ reduce-small q s)
       go (no g) =
           let f : a < b = omega arith in
           let s : a + (q - b) < q = omega arith in

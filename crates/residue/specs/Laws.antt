@@ -22,9 +22,9 @@ module _ (q : ℕ) where
   unfolding reduce
   reduce-reduce a = mod-mod a q
 
-  pub reduce-less : (a : ℕ) → reduce q (q + a) ≡ reduce q a
+  pub reduce-modulus-plus : (a : ℕ) → reduce q (q + a) ≡ reduce q a
   unfolding reduce
-  reduce-less a = rw N.add-comm (add-mod-right a q)
+  reduce-modulus-plus a = rw N.add-comm (add-mod-right a q)
 
   -- the sum is that of the numbers, reduced
   pub reduce-plus : (a b : ℕ) → reduce q (a + b) ≡ add q a b
@@ -93,9 +93,12 @@ module _ (q : ℕ) where
           let e : b ≡ q = omega arith in
           rw (e, mod-self q, add-mod-mod) (ap (λ (z : ℕ). z % q) (omega arith) ∙ add-mod-right a q ∙ ap (λ (z : ℕ). z % q) (omega arith))
 
+  pub sub-reduce : (a b : ℕ) → sub q (reduce q a) (reduce q b) ≡ sub q a b
+  sub-reduce a b = rw (neg-reduce, add-reduce-left)
+
   -- q less, and the sum stays
-  pub sub-self : (a b : ℕ) → sub q (a + b) q ≡ add q a b
-  sub-self a b = sub-plus (a + b) q (omega arith) ∙ ap (reduce q) (omega arith) ∙ reduce-plus a b
+  pub sub-modulus : (a b : ℕ) → sub q (a + b) q ≡ add q a b
+  sub-modulus a b = sub-plus (a + b) q (omega arith) ∙ ap (reduce q) (omega arith) ∙ reduce-plus a b
 
   -- ---- products
 
@@ -103,9 +106,16 @@ module _ (q : ℕ) where
   unfolding mul
   mul-comm a b = ap (λ (z : ℕ). z % q) (omega arith)
 
-  pub mul-assoc : (a b c : ℕ) → mul q (a * b) c ≡ mul q a (mul q b c)
+  -- a product of numbers, taken in two steps
+  pub mul-times : (a b c : ℕ) → mul q (a * b) c ≡ mul q a (mul q b c)
   unfolding mul
-  mul-assoc a b c = sym (unfold reduce in (mul-reduce a (b * c)) ∙ ap (λ (z : ℕ). z % q) (omega arith))
+  mul-times a b c = sym (unfold reduce in (mul-reduce a (b * c)) ∙ ap (λ (z : ℕ). z % q) (omega arith))
+
+  pub mul-assoc : (a b c : ℕ) → mul q (mul q a b) c ≡ mul q a (mul q b c)
+  mul-assoc a b c = mul-comm (mul q a b) c ∙ sym (mul-times c a b) ∙ turned ∙ mul-times a b c
+    where
+      turned : mul q (c * a) b ≡ mul q (a * b) c
+      turned = unfold mul in ap (λ (z : ℕ). z % q) (omega arith)
 
   pub mul-add : (c a b : ℕ) → mul q c (add q a b) ≡ add q (mul q c a) (mul q c b)
   unfolding add mul
@@ -158,9 +168,6 @@ module _ (q : ℕ) where
         ∙ reduce-add (neg q a) (neg q b)
 
     -- ---- differences
-
-    pub sub-reduce : (a b : ℕ) → sub q (reduce q a) (reduce q b) ≡ sub q a b
-    sub-reduce a b = rw (neg-reduce, add-reduce-left)
 
     -- the same added to both sides
     pub sub-shift : (a b c : ℕ) → sub q (add q a c) (add q b c) ≡ sub q a b

@@ -1,8 +1,13 @@
 -- Arithmetic modulo q. Every operation reduces its result, so that its laws hold for all operands, below q or not.
-use mathlib.Core.List.{List}
-use Prim.Native.Nat.{ℕ, suc, _+_, _-_, _*_, _%_, _<_}
+use mathlib.Core.List.{List, [], _∷_}
+use Prim.Native.Nat.{ℕ, zero, suc, _+_, _-_, _*_, _%_, _<_}
 use lib.IntN.{ℤ, pos, negsuc}
 use lib.ListN.{length, getD}
+
+-- the sum of a list of numbers, not reduced
+unfoldable pub total : List ℕ → ℕ
+total [] = 0
+total (a ∷ l) = a + total l
 
 module _ (q : ℕ) where
   unfoldable pub reduce : ℕ → ℕ
@@ -19,6 +24,11 @@ module _ (q : ℕ) where
 
   abbrev pub sub : ℕ → ℕ → ℕ
   sub a b = add a (neg b)
+
+  -- f 0 + .. + f (n - 1)
+  unfoldable pub sum : ℕ → (ℕ → ℕ) → ℕ
+  sum zero f = 0
+  sum (suc n) f = add (f zero) (sum n (λ i. f (suc i)))
 
   -- an integer modulo q
   unfoldable pub reduceℤ : ℤ → ℕ

@@ -1,4 +1,4 @@
--- Finite sums modulo q, over an index and over a list.
+-- Laws of finite sums modulo q, over an index and over a list.
 use mathlib.Core.Path.{_≡_, refl, sym, ap, _∙_}
 use mathlib.Core.List.{List, [], _∷_, _++_}
 use Prim.Native.Nat.{ℕ, zero, suc, _+_, _<_, suc-le-suc}
@@ -6,13 +6,8 @@ use native.Mathlib.Nat as N
 use native.Mathlib.Omega.{arith}
 use lib.ListN.{length, getD, take, drop, length-take, length-drop, take-append-drop}
 use lib.Seq.{getD-take, getD-drop}
-use Rattle.residue.specs.Residue.{reduce, add, mul, neg, EachBelow}
+use Rattle.residue.specs.Residue.{reduce, add, mul, neg, sum, total, EachBelow}
 use Rattle.residue.specs.Laws.{reduce-zero, reduce-plus, reduce-add, add-reduce-left, add-reduce-right, add-comm, add-assoc, add-left-comm, zero-add, add-zero, mul-add, mul-zero, neg-zero, neg-add}
-
--- the sum of a list of numbers, not reduced
-unfoldable pub total : List ℕ → ℕ
-total [] = 0
-total (a ∷ l) = a + total l
 
 pub total-append : (a b : List ℕ) → total (a ++ b) ≡ total a + total b
 unfolding total
@@ -39,59 +34,54 @@ module _ (q h : ℕ) (l : List ℕ) where
 -- ---- over an index
 
 module _ (q : ℕ) where
-  -- f 0 + .. + f (n - 1)
-  unfoldable pub sum : ℕ → (ℕ → ℕ) → ℕ
-  sum zero f = 0
-  sum (suc n) f = add q (f zero) (sum n (λ i. f (suc i)))
-
-  pub sum-cong : (n : ℕ) (f g : ℕ → ℕ) → ((i : ℕ) → i < n → f i ≡ g i) → sum n f ≡ sum n g
+  pub sum-cong : (n : ℕ) (f g : ℕ → ℕ) → ((i : ℕ) → i < n → f i ≡ g i) → sum q n f ≡ sum q n g
   unfolding sum
   sum-cong zero f g h = refl
   sum-cong (suc n) f g h = rw (h zero (omega arith), sum-cong n (λ i. f (suc i)) (λ i. g (suc i)) (λ i l. h (suc i) (suc-le-suc l)))
 
-  pub reduce-sum : (n : ℕ) (f : ℕ → ℕ) → reduce q (sum n f) ≡ sum n f
+  pub reduce-sum : (n : ℕ) (f : ℕ → ℕ) → reduce q (sum q n f) ≡ sum q n f
   unfolding sum
   reduce-sum zero f = reduce-zero q
-  reduce-sum (suc n) f = reduce-add q (f zero) (sum n (λ i. f (suc i)))
+  reduce-sum (suc n) f = reduce-add q (f zero) (sum q n (λ i. f (suc i)))
 
-  pub sum-reduce : (n : ℕ) (f : ℕ → ℕ) → sum n (λ i. reduce q (f i)) ≡ sum n f
+  pub sum-reduce : (n : ℕ) (f : ℕ → ℕ) → sum q n (λ i. reduce q (f i)) ≡ sum q n f
   unfolding sum
   sum-reduce zero f = refl
-  sum-reduce (suc n) f = rw (sum-reduce n (λ i. f (suc i))) (add-reduce-left q (f zero) (sum n (λ i. f (suc i))))
+  sum-reduce (suc n) f = rw (sum-reduce n (λ i. f (suc i))) (add-reduce-left q (f zero) (sum q n (λ i. f (suc i))))
 
   -- the sum of a list, reduced, is the sum over its positions
-  pub sum-list : (l : List ℕ) → sum (length l) (λ i. getD l i 0) ≡ reduce q (total l)
+  pub sum-list : (l : List ℕ) → sum q (length l) (λ i. getD l i 0) ≡ reduce q (total l)
   unfolding sum total
   sum-list [] = sym (reduce-zero q)
   sum-list (a ∷ l) = rw (sum-list l, add-reduce-right) (sym (reduce-plus q a (total l)))
 
-  pub sum-last : (n : ℕ) (f : ℕ → ℕ) → sum (suc n) f ≡ add q (sum n f) (f n)
+  pub sum-last : (n : ℕ) (f : ℕ → ℕ) → sum q (suc n) f ≡ add q (sum q n f) (f n)
   unfolding sum
   sum-last zero f = add-comm q (f zero) 0
-  sum-last (suc n) f = ap (add q (f zero)) (sum-last n (λ i. f (suc i))) ∙ sym (add-assoc q (f zero) (sum n (λ i. f (suc i))) (f (suc n)))
+  sum-last (suc n) f = ap (add q (f zero)) (sum-last n (λ i. f (suc i))) ∙ sym (add-assoc q (f zero) (sum q n (λ i. f (suc i))) (f (suc n)))
 
-  pub sum-zero : (n : ℕ) → sum n (λ i. 0) ≡ 0
+  pub sum-zero : (n : ℕ) → sum q n (λ i. 0) ≡ 0
   unfolding sum
   sum-zero zero = refl
   sum-zero (suc n) = rw (sum-zero n) (zero-add q 0 ∙ reduce-zero q)
 
-  pub sum-add : (n : ℕ) (f g : ℕ → ℕ) → sum n (λ i. add q (f i) (g i)) ≡ add q (sum n f) (sum n g)
+  pub sum-add : (n : ℕ) (f g : ℕ → ℕ) → sum q n (λ i. add q (f i) (g i)) ≡ add q (sum q n f) (sum q n g)
   unfolding sum
   sum-add zero f g = sym (zero-add q 0 ∙ reduce-zero q)
   sum-add (suc n) f g = rw (sum-add n (λ i. f (suc i)) (λ i. g (suc i))) (simp (add-assoc, add-left-comm))
 
-  pub sum-mul : (c n : ℕ) (f : ℕ → ℕ) → sum n (λ i. mul q c (f i)) ≡ mul q c (sum n f)
+  pub sum-mul : (c n : ℕ) (f : ℕ → ℕ) → sum q n (λ i. mul q c (f i)) ≡ mul q c (sum q n f)
   unfolding sum
   sum-mul c zero f = sym (mul-zero q c)
-  sum-mul c (suc n) f = rw (sum-mul c n (λ i. f (suc i))) (sym (mul-add q c (f zero) (sum n (λ i. f (suc i)))))
+  sum-mul c (suc n) f = rw (sum-mul c n (λ i. f (suc i))) (sym (mul-add q c (f zero) (sum q n (λ i. f (suc i)))))
 
-  pub sum-swap : (n k : ℕ) (f : ℕ → ℕ → ℕ) → sum n (λ i. sum k (λ t. f t i)) ≡ sum k (λ t. sum n (f t))
+  pub sum-swap : (n k : ℕ) (f : ℕ → ℕ → ℕ) → sum q n (λ i. sum q k (λ t. f t i)) ≡ sum q k (λ t. sum q n (f t))
   unfolding sum
   sum-swap n zero f = sum-zero n
-  sum-swap n (suc k) f = sum-add n (f zero) (λ i. sum k (λ t. f (suc t) i)) ∙ ap (add q (sum n (f zero))) (sum-swap n k (λ t. f (suc t)))
+  sum-swap n (suc k) f = sum-add n (f zero) (λ i. sum q k (λ t. f (suc t) i)) ∙ ap (add q (sum q n (f zero))) (sum-swap n k (λ t. f (suc t)))
 
   module _ (pos : 0 < q) where
-    pub sum-neg : (n : ℕ) (f : ℕ → ℕ) → sum n (λ i. neg q (f i)) ≡ neg q (sum n f)
+    pub sum-neg : (n : ℕ) (f : ℕ → ℕ) → sum q n (λ i. neg q (f i)) ≡ neg q (sum q n f)
     unfolding sum
     sum-neg zero f = sym (neg-zero q pos)
-    sum-neg (suc n) f = rw (sum-neg n (λ i. f (suc i))) (sym (neg-add q pos (f zero) (sum n (λ i. f (suc i)))))
+    sum-neg (suc n) f = rw (sum-neg n (λ i. f (suc i))) (sym (neg-add q pos (f zero) (sum q n (λ i. f (suc i)))))

@@ -4,9 +4,9 @@ use mathlib.Core.List.{List}
 use native.Mathlib.Omega.{arith}
 use borrow.Author.Needs.{needs}
 use lib.ListN.{length, getD}
-use Rattle.residue.specs.Residue.{reduce, add}
+use Rattle.residue.specs.Residue.{reduce, add, total}
 use Rattle.residue.specs.Laws.{reduce-small, reduce-lt}
-use Rattle.residue.specs.Sum.{total, total-one, total-split, each-below-take, each-below-drop}
+use Rattle.residue.specs.Sum.{total-one, total-split, each-below-take, each-below-drop}
 use Rattle.masking.proofs.Halves.{single, half, length-first, second, length-second}
 use Prim.Native.Nat.{ℕ, _<_}
 use borrow.Fn.Kinds.{In}
