@@ -1,2 +1,3 @@
 pub mod Overwrite
 pub mod Laws
+pub mod Positions

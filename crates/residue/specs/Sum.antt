@@ -1,13 +1,14 @@
 -- Laws of finite sums modulo q, over an index and over a list.
 use mathlib.Core.Path.{_≡_, refl, sym, ap, _∙_}
 use mathlib.Core.List.{List, [], _∷_, _++_}
+use mathlib.Core.Logic.{_≢_}
 use Prim.Native.Nat.{ℕ, zero, suc, _+_, _<_, suc-le-suc}
 use native.Mathlib.Nat as N
 use native.Mathlib.Omega.{arith}
 use lib.ListN.{length, getD, take, drop, length-take, length-drop, take-append-drop}
 use lib.Seq.{getD-take, getD-drop}
 use Rattle.residue.specs.Residue.{reduce, add, mul, neg, sum, total, EachBelow}
-use Rattle.residue.specs.Laws.{reduce-zero, reduce-plus, reduce-add, add-reduce-left, add-reduce-right, add-comm, add-assoc, add-left-comm, zero-add, add-zero, mul-add, mul-zero, neg-zero, neg-add}
+use Rattle.residue.specs.Laws.{reduce-zero, reduce-lt, reduce-reduce, reduce-plus, reduce-add, add-reduce-left, add-reduce-right, add-comm, add-assoc, add-left-comm, zero-add, add-zero, mul-add, mul-zero, neg-zero, neg-add}
 
 pub total-append : (a b : List ℕ) → total (a ++ b) ≡ total a + total b
 unfolding total
@@ -65,6 +66,16 @@ module _ (q : ℕ) where
   sum-zero zero = refl
   sum-zero (suc n) = rw (sum-zero n) (zero-add q 0 ∙ reduce-zero q)
 
+  -- all terms but one are 0
+  pub sum-one : (n i : ℕ) (f : ℕ → ℕ) → i < n → ((j : ℕ) → j < n → j ≢ i → f j ≡ 0) → sum q n f ≡ reduce q (f i)
+  unfolding sum
+  sum-one zero i f h z = absurd (N.not-suc-le-zero h)
+  sum-one (suc n) zero f h z =
+      rw (sum-cong n (λ j. f (suc j)) (λ j. 0) (λ j l. z (suc j) (suc-le-suc l) (N.suc-ne-zero j)), sum-zero n) (add-zero q (f zero))
+  sum-one (suc n) (suc i) f h z =
+      rw (z zero (omega arith) (λ e. N.suc-ne-zero i (sym e)), sum-one n i (λ j. f (suc j)) (N.le-of-suc-le-suc h) (λ j l m. z (suc j) (suc-le-suc l) (λ e. m (N.suc-inj e))))
+      (zero-add q (reduce q (f (suc i))) ∙ reduce-reduce q (f (suc i)))
+
   pub sum-add : (n : ℕ) (f g : ℕ → ℕ) → sum q n (λ i. add q (f i) (g i)) ≡ add q (sum q n f) (sum q n g)
   unfolding sum
   sum-add zero f g = sym (zero-add q 0 ∙ reduce-zero q)
@@ -81,6 +92,9 @@ module _ (q : ℕ) where
   sum-swap n (suc k) f = sum-add n (f zero) (λ i. sum q k (λ t. f (suc t) i)) ∙ ap (add q (sum q n (f zero))) (sum-swap n k (λ t. f (suc t)))
 
   module _ (pos : 0 < q) where
+    pub sum-lt : (n : ℕ) (f : ℕ → ℕ) → sum q n f < q
+    sum-lt n f = rw (← reduce-sum n f) (reduce-lt q pos (sum q n f))
+
     pub sum-neg : (n : ℕ) (f : ℕ → ℕ) → sum q n (λ i. neg q (f i)) ≡ neg q (sum q n f)
     unfolding sum
     sum-neg zero f = sym (neg-zero q pos)

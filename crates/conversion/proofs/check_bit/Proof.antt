@@ -1,0 +1,154 @@
+-- One answer for each check: those before it held, and it fails.
+use mathlib.Core.Path.{_≡_, sym, ap, _∙_}
+use mathlib.Core.List.{List}
+use Prim.Native.Nat.{_-_, _*_, _≤_}
+use native.Mathlib.Nat.{mul-le-mul, one-mul}
+use native.Mathlib.Omega.{arith}
+use lib.ListN.{take}
+use borrow.Author.Tests.{le-leb, lt-leb, eq-eqb, ne-eqb}
+use borrow.Author.Needs.{needs}
+use Rattle.checks.specs.Search.{firstNotBelow}
+use Rattle.checks.specs.Checks.{Check}
+use Rattle.checks.specs.Laws.{Past, pass, fail, pass-none, fail-some, pass-all, test-holds, test-fails, search-none, search-some, within-true}
+use Rattle.conversion.specs.Conversion.{bitWords, bitChecks}
+use Rattle.conversion.proofs.check_bit.Statement.{statement}
+use Rattle.conversion.proofs.check_bit.Tie as tie
+
+abbrev checks : tie.Start → List Check
+checks s = bitChecks (s .args .n) (s .args .q) (s .args .bits .now) (s .args .words .now) (s .args .room)
+
+past1 : (c : tie.Else1) → Past (checks (c .before .before .before .before)) 1
+past1 c = pass tt _ _ (test-holds (c .before .within .ensures) (c .if1 .left))
+
+past2 : (c : tie.Else2) → Past (checks (c .before .before .before .before .before)) 2
+past2 c = past1 (c .before) ∙ pass tt _ _ (le-leb _ _ (c .if2 .left))
+
+past3 : (c : tie.Else3) → Past (checks (c .before .before .before .before .before .before)) 3
+past3 c = past2 (c .before) ∙ pass tt _ _ (eq-eqb _ _ (c .if3 .left))
+
+past4 : (c : tie.After-enum-told) → Past (checks (c .before .before .before .before .before .before .before .before .before)) 4
+past4 c = past3 (c .before .before .before) ∙ pass-none tt _ _ _ _ (search-none (c .before .before .first-wide .ensures) (c .enum-told .given .1))
+
+past5 : (c : tie.Else4) → Past (checks (c .before .before .before .before .before .before .before .before .before .before)) 5
+past5 c = past4 (c .before) ∙ pass tt _ _ (le-leb _ _ (c .if4 .left))
+
+-- one bit of n (n − 1) words
+one : (s : tie.Start) → firstNotBelow (s .args .q) (take (1 * bitWords (s .args .n)) (s .args .words .now)) ≡ firstNotBelow (s .args .q) (take (bitWords (s .args .n)) (s .args .words .now))
+one s = ap (λ m. firstNotBelow (s .args .q) (take m (s .args .words .now))) (one-mul (bitWords (s .args .n)))
+
+past6 : (c : tie.After-enum-told2) → Past (checks (c .before .before .before .before .before .before .before .before .before .before .before .before .before)) 6
+past6 c = past5 (c .before .before .before) ∙ pass-none tt _ _ _ _ (sym (one (c .before .before .before .before .before .before .before .before .before .before .before .before .before)) ∙ search-none (c .before .before .first-not-below .ensures) (c .enum-told2 .given .1))
+
+past7 : (c : tie.Else5) → Past (checks (c .before .before .before .before .before .before .before .before .before .before .before .before .before .before)) 7
+past7 c = past6 (c .before) ∙ pass tt _ _ (le-leb _ _ (c .if5 .left))
+
+-- check 1 held
+bounds : (c : tie.Else1) → (2 ≤ c .before .before .before .before .args .n) × (bitWords (c .before .before .before .before .args .n) ≤ 64)
+bounds c =
+    let n = within-true 2 8 (c .before .before .before .before .args .n) (test-holds (c .before .within .ensures) (c .if1 .left)) in
+    let m : c .before .before .before .before .args .n - 1 ≤ 8 = omega arith in
+    (n .0, mul-le-mul (n .1) m)
+
+within-requires : tie.Need-within-requires
+within-requires c κs = search needs
+
+refuse-requires : tie.Need-refuse-requires
+refuse-requires c κs = search needs
+
+returns : tie.Need-returns
+returns c = c .refuse .ensures ∙ sym (fail tt _ _ (test-fails (c .before .before .within .ensures) (c .before .if1 .taken)))
+
+refuse-requires-2 : tie.Need-refuse-requires-2
+refuse-requires-2 c κs = search needs
+
+returns-2 : tie.Need-returns-2
+returns-2 c = c .refuse2 .ensures ∙ sym (past1 (c .before .before) ∙ fail tt _ _ (lt-leb _ _ (c .before .if2 .taken)))
+
+refuse-requires-3 : tie.Need-refuse-requires-3
+refuse-requires-3 c κs = search needs
+
+returns-3 : tie.Need-returns-3
+returns-3 c = c .refuse3 .ensures ∙ sym (past2 (c .before .before) ∙ fail tt _ _ (ne-eqb _ _ (c .before .if3 .taken)))
+
+first-wide-requires : tie.Need-first-wide-requires
+first-wide-requires c κs = search needs
+
+enum-known-i : tie.Need-enum-known-i
+enum-known-i c = search needs
+
+refuse-requires-4 : tie.Need-refuse-requires-4
+refuse-requires-4 c κs = search needs
+
+returns-4 : tie.Need-returns-4
+returns-4 c = c .refuse4 .ensures ∙ sym (past3 (c .before .before .before .before .before) ∙ fail-some tt _ _ _ _ _ (search-some (c .before .before .before .before .first-wide .ensures) (c .before .before .i .given .1)))
+
+enum-told : tie.Need-enum-told
+enum-told c = search needs
+
+sub-per : tie.Need-sub-per
+sub-per c = omega (arith, bounds (c .before .before .before .before .before))
+
+mul-per : tie.Need-mul-per
+mul-per c = omega (arith, bounds (c .before .before .before .before .before))
+
+refuse-requires-5 : tie.Need-refuse-requires-5
+refuse-requires-5 c κs = search needs
+
+returns-5 : tie.Need-returns-5
+returns-5 c = c .refuse5 .ensures ∙ sym (past4 (c .before .before) ∙ fail tt _ _ (lt-leb _ _ (c .before .if4 .taken)))
+
+first-not-below-requires : tie.Need-first-not-below-requires
+first-not-below-requires c κs = search needs
+
+enum-known-i-2 : tie.Need-enum-known-i-2
+enum-known-i-2 c = search needs
+
+refuse-requires-6 : tie.Need-refuse-requires-6
+refuse-requires-6 c κs = search needs
+
+returns-6 : tie.Need-returns-6
+returns-6 c =
+    c .refuse6 .ensures
+    ∙ sym (past5 (c .before .before .before .before .before)
+    ∙ fail-some tt _ _ _ _ _ (sym (one (c .before .before .before .before .before .before .before .before .before .before .before .before .before .before .before)) ∙ search-some (c .before .before .before .before .first-not-below .ensures) (c .before .before .i2 .given .1)))
+
+enum-told-2 : tie.Need-enum-told-2
+enum-told-2 c = search needs
+
+refuse-requires-7 : tie.Need-refuse-requires-7
+refuse-requires-7 c κs = search needs
+
+returns-7 : tie.Need-returns-7
+returns-7 c = c .refuse7 .ensures ∙ sym (past6 (c .before .before) ∙ fail tt _ _ (lt-leb _ _ (c .before .if5 .taken)))
+
+returns-8 : tie.Need-returns-8
+returns-8 c = sym (past7 c ∙ pass-all tt)
+
+pub check-bit-spec : {M : Type 1} → statement M
+check-bit-spec =
+    tie.close
+    (tie.spec
+    within-requires
+    refuse-requires
+    returns
+    refuse-requires-2
+    returns-2
+    refuse-requires-3
+    returns-3
+    first-wide-requires
+    enum-known-i
+    refuse-requires-4
+    returns-4
+    enum-told
+    sub-per
+    mul-per
+    refuse-requires-5
+    returns-5
+    first-not-below-requires
+    enum-known-i-2
+    refuse-requires-6
+    returns-6
+    enum-told-2
+    refuse-requires-7
+    returns-7
+    returns-8)

@@ -1,0 +1,21 @@
+-- What the functions below the call ask of their arguments, and what their arrays hold.
+use mathlib.Core.Path.{_≡_}
+use mathlib.Core.List.{List}
+use Prim.Native.Nat.{ℕ, _+_, _^_, _≤_, _<_}
+use lib.ListN.{length}
+use Rattle.buffers.specs.Positions.{at, after, Same, Below}
+
+-- eight words, of which the first n are those of f
+pub record Holds (n : ℕ) (f : ℕ → ℕ) (a : List ℕ) : Type 0 where
+  pub eight : length a ≡ 8
+  pub same : Same n (at a) f
+
+-- the list has `count` words from `start` on, each below q
+pub record Drawn (q start count : ℕ) (words : List ℕ) : Type 0 where
+  pub room : start + count ≤ length words
+  pub below : Below q count (after start (at words))
+
+-- q above 2, so that a bit is below it
+pub record Modulus (q : ℕ) : Type 0 where
+  pub large : 2 < q
+  pub small : q < 2 ^ 31

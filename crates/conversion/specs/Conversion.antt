@@ -1,0 +1,86 @@
+-- From one shared bit to n numbers (document 01, 'From one shared bit to n numbers'; source 003, Algorithm 5).
+-- Shares and words are functions of the position. Shares are counted from 0 here, from 1 on the page.
+use mathlib.Core.Bool.{cond}
+use mathlib.Core.List.{List, [], _∷_, _++_}
+use Prim.Native.Nat.{ℕ, zero, suc, _+_, _-_, _*_}
+use lib.Dec.{ltb, eqb}
+use lib.ListN.{length, take}
+use Rattle.residue.specs.Residue.{add, sub, sum}
+use Rattle.buffers.specs.Overwrite.{overwrite}
+use Rattle.buffers.specs.Positions.{at, table, after}
+use Rattle.checks.specs.Checks.{Check, Outcome, verdict, settled, shareCount, modulusAtLeast, exactly, narrow, atLeast, allBelow}
+
+-- how many pairs n shares have: the words of step 2 up to j = n, and those of step 3
+unfoldable pub pairs : ℕ → ℕ
+pairs zero = 0
+pairs (suc n) = pairs n + n
+
+module _ (q : ℕ) where
+  -- ---- steps 1 and 2 (source 003, Algorithms 6 and 7)
+
+  -- B(i) = A(i) − r(i) for the j shares A, and one share more: the sum of the r
+  unfoldable pub extend : ℕ → (ℕ → ℕ) → (ℕ → ℕ) → ℕ → ℕ
+  extend j A r i = cond (ltb i j) (sub q (A i) (r i)) (sum q j r)
+
+  -- v − 2 × v × b
+  unfoldable pub lessTwice : ℕ → ℕ → ℕ
+  lessTwice b v = sub q v (2 * v * b)
+
+  -- C(i) = B(i) − 2 × B(i) × b, and b is added to C(1)
+  unfoldable pub xorBit : ℕ → (ℕ → ℕ) → ℕ → ℕ
+  xorBit b B zero = add q (lessTwice b (B zero)) b
+  xorBit b B (suc i) = lessTwice b (B (suc i))
+
+  -- Step 2: the list for j + 1 shares of the bit, from the list A for j, the next j words r and the next share b
+  unfoldable pub xorShare : ℕ → (ℕ → ℕ) → (ℕ → ℕ) → ℕ → ℕ → ℕ
+  xorShare j A r b = xorBit b (extend j A r)
+
+  -- One share: b(1) alone. For more, all but the last are converted first.
+  unfoldable pub convert : ℕ → (ℕ → ℕ) → (ℕ → ℕ) → ℕ → ℕ
+  convert zero b w = λ i. 0
+  convert (suc zero) b w = λ i. b 0
+  convert (suc (suc m)) b w = xorShare (suc m) (convert (suc m) b w) (after (pairs (suc m)) w) (b (suc m))
+
+  -- ---- step 3 (source 003, Algorithm 8)
+
+  -- the pair (i, m) takes the word r: share i gains r, share m loses r
+  unfoldable pub transfer : ℕ → ℕ → ℕ → (ℕ → ℕ) → ℕ → ℕ
+  transfer i m r A s = cond (eqb s i) (add q (A s) r) (cond (eqb s m) (sub q (A s) r) (A s))
+
+  -- share i with each of the c shares from m on, in their order
+  unfoldable pub refreshShare : ℕ → ℕ → ℕ → (ℕ → ℕ) → (ℕ → ℕ) → ℕ → ℕ
+  refreshShare i m zero w A = A
+  refreshShare i m (suc c) w A = refreshShare i (suc m) c (λ j. w (suc j)) (transfer i m (w 0) A)
+
+  -- share i with those behind it, then the next share with those behind it, and so on: all pairs of the c shares from i on
+  unfoldable pub refreshFrom : ℕ → ℕ → (ℕ → ℕ) → (ℕ → ℕ) → ℕ → ℕ
+  refreshFrom i zero w A = A
+  refreshFrom i (suc c) w A = refreshFrom (suc i) c (after c w) (refreshShare i (suc i) c w A)
+
+  abbrev pub refresh : ℕ → (ℕ → ℕ) → (ℕ → ℕ) → ℕ → ℕ
+  refresh n w A = refreshFrom 0 n w A
+
+  -- ---- the n shares of the bit: steps 1 and 2 with the first words, step 3 with those behind them
+
+  unfoldable pub convertBit : ℕ → (ℕ → ℕ) → (ℕ → ℕ) → ℕ → ℕ
+  convertBit n b w = refresh n (after (pairs n) w) (convert n b w)
+
+-- ---- the call
+
+-- the words that one bit takes
+abbrev pub bitWords : ℕ → ℕ
+bitWords n = n * (n - 1)
+
+unfoldable pub bitShares : ℕ → ℕ → List ℕ → List ℕ → List ℕ
+bitShares n q bits words = table n (convertBit q n (at bits) (at words))
+
+-- the checks of the shared bit, and then those of the words and the output
+abbrev pub sharingChecks : ℕ → ℕ → List ℕ → List Check
+sharingChecks n q bits = shareCount n ∷ modulusAtLeast 3 q ∷ exactly 4 n bits ∷ narrow 6 1 bits ∷ []
+
+abbrev pub bitChecks : ℕ → ℕ → List ℕ → List ℕ → ℕ → List Check
+bitChecks n q bits words room =
+    sharingChecks n q bits ++ (atLeast 8 (bitWords n) (length words) ∷ allBelow 9 q (take (bitWords n) words) ∷ atLeast 10 n room ∷ [])
+
+unfoldable pub converted : ℕ → ℕ → List ℕ → List ℕ → List ℕ → Outcome ℕ (List ℕ)
+converted n q bits words out = settled (verdict (bitChecks n q bits words (length out)) (bitWords n)) out (overwrite out 0 (bitShares n q bits words))

@@ -1,0 +1,4 @@
+pub mod Conversion
+pub mod ZeroSharing
+pub mod Laws
+pub mod Arrays

@@ -1,0 +1,134 @@
+// One shared bit to n shares modulo q (document 01, 'From one shared bit to n numbers'; source 003, Algorithm 5).
+// No branch, index, comparison, division or remainder depends on a share, a bit or a random word behind the checks.
+use checks::Answer;
+use checks::Checked;
+use checks::Found;
+use residue::Wide;
+use residue::Word;
+ghost use mathlib.Core.Path.{_≡_};
+ghost use Prim.Native.Nat.{_+_, _*_, _^_, _≤_, _<_};
+ghost use lib.ListN.{length};
+ghost use Rattle.buffers.specs.Overwrite.{overwrite};
+ghost use Rattle.buffers.specs.Positions.{at, table, after, Below};
+ghost use Rattle.checks.specs.Checks.{checked};
+ghost use Rattle.checks.specs.Answers.{checkedReading, outcome};
+ghost use Rattle.conversion.specs.Conversion.{pairs, lessTwice, xorShare, convert, refresh, convertBit, bitChecks, converted};
+ghost use Rattle.conversion.specs.Arrays.{Holds, Drawn, Modulus};
+
+// v - 2vb modulo q for a bit b: v, or its negative.
+fn less_twice(v: Wide, b: Wide, q: Word) -> Word
+    requires { ⌜ (v < q) × (b < 2) × (q < 2 ^ 31) ⌝ }
+    ensures { λ r. ⌜ r ≡ lessTwice q b v ⌝ }
+{
+    residue::narrow(residue::sub(v * (1 - b), v * b, residue::widen(q)), q)
+}
+
+// Step 2: the list for j + 1 shares of the bit, from the list for j, the j words at `start` and the next share of the bit.
+fn xor_share(a: [Word; 8], j: usize, bit: Word, q: Word, words: &[Word], start: usize) -> [Word; 8]
+    requires { ⌜ (1 ≤ j) × (j < 8) × (bit < 2) × Modulus q × Below q j (at a) × Drawn q start j (now words) ⌝ }
+    ensures { λ r. ⌜ Holds (j + 1) (xorShare q j (at a) (after start (at (now (words .entry)))) bit) r ⌝ }
+{
+    let m = residue::widen(q);
+    let b = residue::widen(bit);
+    let mut c: [Word; 8] = [0; 8];
+    let mut sum: Wide = 0;
+    for i in 0..8 {
+        if i < j {
+            let r = residue::widen(words[start + i]);
+            c[i] = less_twice(residue::sub(residue::widen(a[i]), r, m), b, q);
+            sum = residue::add(sum, r, m);
+        } else if i == j {
+            c[i] = less_twice(sum, b, q);
+        }
+    }
+    c[0] = residue::narrow(residue::add(residue::widen(c[0]), b, m), q);
+    c
+}
+
+// Steps 1 and 2: the list for the first j shares of the bit.
+fn convert(bits: &[u16; 8], j: usize, q: Word, words: &[Word], start: usize) -> [Word; 8]
+    requires { ⌜ (1 ≤ j) × (j ≤ 8) × Modulus q × Below 2 j (at (now bits)) × Drawn q start (pairs j) (now words) ⌝ }
+    ensures { λ r. ⌜ Holds j (convert q j (at (now (bits .entry))) (after start (at (now (words .entry))))) r ⌝ }
+{
+    let k = j - 1;
+    let bit = residue::from_u16(bits[k]);
+    if k == 0 {
+        let mut one: [Word; 8] = [0; 8];
+        one[0] = bit;
+        return one;
+    }
+    let a = convert(bits, k, q, words, start);
+    xor_share(a, k, bit, q, words, start + k * (k - 1) / 2)
+}
+
+// Step 3: every pair of the n shares takes a word from `start` on. The shares come to stand at `to` in `out` and behind.
+fn refresh(shares: [Word; 8], n: usize, q: Word, words: &[Word], start: usize, out: &mut [Word], to: usize)
+    requires { ⌜ (n ≤ 8) × Modulus q × (length shares ≡ 8) × Below q n (at shares) × Drawn q start (pairs n) (now words) × (to + n ≤ length (now out)) ⌝ }
+    ensures { λ _. ⌜ now (out .exit) ≡ overwrite (now (out .entry)) to (table n (refresh q n (after start (at (now (words .entry)))) (at shares))) ⌝ }
+{
+    let m = residue::widen(q);
+    let mut a = shares;
+    let mut p = start;
+    for i in 0..n {
+        let mut own = residue::widen(a[i]);
+        for j in i + 1..n {
+            let r = residue::widen(words[p]);
+            own = residue::add(own, r, m);
+            a[j] = residue::narrow(residue::sub(residue::widen(a[j]), r, m), q);
+            p += 1;
+        }
+        out[to + i] = residue::narrow(own, q);
+    }
+}
+
+// The n shares of a bit, from the n(n - 1) words at `start`. They come to stand at `to` in `out` and behind.
+pub fn convert_at(bits: &[u16; 8], n: usize, q: Word, words: &[Word], start: usize, out: &mut [Word], to: usize)
+    requires { ⌜ (1 ≤ n) × (n ≤ 8) × Modulus q × Below 2 n (at (now bits)) × Drawn q start (pairs n + pairs n) (now words) × (to + n ≤ length (now out)) ⌝ }
+    ensures { λ _. ⌜ now (out .exit) ≡ overwrite (now (out .entry)) to (table n (convertBit q n (at (now (bits .entry))) (after start (at (now (words .entry)))))) ⌝ }
+{
+    let a = convert(bits, n, q, words, start);
+    refresh(a, n, q, words, start + n * (n - 1) / 2, out, to);
+}
+
+fn check_bit(n: usize, q: Word, bits: &[u16], words: &[Word], room: usize) -> Checked
+    ensures { λ r. ⌜ checkedReading r ≡ checked (bitChecks n q (now (bits .entry)) (now (words .entry)) room) ⌝ }
+{
+    if !checks::within(2, 8, n) {
+        return checks::refuse(checks::SHARE_COUNT, 0);
+    }
+    if q < 3 {
+        return checks::refuse(checks::MODULUS, 0);
+    }
+    if bits.len() != n {
+        return checks::refuse(checks::X_COUNT, 0);
+    }
+    if let Found::At(i) = checks::first_wide(bits, 1) {
+        return checks::refuse(checks::X_WIDTH, i);
+    }
+    let per = n * (n - 1);
+    if words.len() < per {
+        return checks::refuse(checks::WORD_COUNT, 0);
+    }
+    if let Found::At(i) = checks::first_not_below(words, 1, per, q) {
+        return checks::refuse(checks::WORD_RANGE, i);
+    }
+    if room < n {
+        return checks::refuse(checks::OUTPUT_ROOM, 0);
+    }
+    Checked::Passed
+}
+
+// Converts one shared bit to n shares modulo q and answers n(n - 1), the number of words it takes from the front of the list.
+// Output positions past n keep their content.
+// Refuses 1, 3 (q below 3), 4, 6 with the share's position, 8, 9 with the word's position, 10.
+pub fn convert_bit(n: usize, q: Word, bits: &[u16], words: &[Word], out: &mut [Word]) -> Answer
+    ensures { λ r. ⌜ outcome r (now (out .exit)) ≡ converted n q (now (bits .entry)) (now (words .entry)) (now (out .entry)) ⌝ }
+{
+    if let Checked::Failed(r) = check_bit(n, q, bits, words, out.len()) {
+        return Answer::Refused(r);
+    }
+    let mut shares = [0u16; 8];
+    buffers::copy(&mut shares, 0, bits);
+    convert_at(&shares, n, q, words, 0, out, 0);
+    Answer::Done(n * (n - 1))
+}

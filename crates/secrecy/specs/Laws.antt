@@ -1,0 +1,18 @@
+-- Laws of one-to-one maps and of runs that cannot be told apart.
+use mathlib.Core.Path.{_≡_, sym, ap, _∙_}
+use Rattle.secrecy.specs.Secrecy.{OneToOne, Indistinguishable}
+
+module _ {T : Type 0} {P : T → Type 0} where
+  -- a map that another one undoes, on both sides
+  pub undone-one-to-one : {f g : T → T} → ((w : T) → P w → P (f w)) → ((w : T) → P w → P (g w)) → ((w : T) → P w → g (f w) ≡ w) → ((w : T) → P w → f (g w) ≡ w) → OneToOne P f
+  undone-one-to-one {f} {g} there back g-f f-g =
+      record { full = there; different = λ v w p r e. sym (g-f v p) ∙ ap g e ∙ g-f w r; origin = g; origin-full = back; image = f-g }
+
+  -- runs that are alike are so in all that follows from it
+  pub weaken : {R S : T → T → Type 0} → ((v w : T) → P v → P w → R v w → S v w) → Indistinguishable P R → Indistinguishable P S
+  weaken h r =
+      record {
+        map = r .map;
+        one-to-one = r .one-to-one;
+        alike = λ w p. h w (r .map w) p (r .one-to-one .full w p) (r .alike w p);
+      }

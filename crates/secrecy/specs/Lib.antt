@@ -1,0 +1,4 @@
+pub mod Secrecy
+pub mod Laws
+pub mod Words
+pub mod Translation

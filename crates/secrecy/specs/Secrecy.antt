@@ -1,0 +1,31 @@
+-- What it means that outputs tell nothing of a secret (document 01: 'The rule about n − 1 shares').
+use mathlib.Core.Path.{_≡_}
+use mathlib.Core.List.{List}
+use Prim.Native.Nat.{ℕ}
+use lib.ListN.{length}
+use Rattle.residue.specs.Residue.{EachBelow}
+
+-- A full list: exactly W words, each below q.
+pub record Full (q W : ℕ) (ws : List ℕ) : Type 0 where
+  pub count : length ws ≡ W
+  pub below : EachBelow q ws
+
+-- A one-to-one map of the full lists (or whatever else P tells) onto themselves: the image of a full list is full, different ones have
+-- different images, and every full list is the image of one.
+pub record OneToOne {T : Type 0} (P : T → Type 0) (f : T → T) : Type 0 where
+  pub full : (w : T) → P w → P (f w)
+  pub different : (v w : T) → P v → P w → f v ≡ f w → v ≡ w
+  pub origin : T → T
+  pub origin-full : (w : T) → P w → P (origin w)
+  pub image : (w : T) → P w → f (origin w) ≡ w
+
+-- Two runs cannot be told apart: some one-to-one map, chosen before the words, takes every full list v to one, w, such that the one run
+-- on v and the other on w are alike. Words drawn evenly then make what is alike in both equally frequent in both.
+pub record Indistinguishable {T : Type 0} (P : T → Type 0) (Alike : T → T → Type 0) : Type 0 where
+  pub map : T → T
+  pub one-to-one : OneToOne P map
+  pub alike : (w : T) → P w → Alike w (map w)
+
+-- Alike in all outputs that are seen; what is left out may differ.
+abbrev pub AlikeIn : {T I A : Type 0} → (I → Type 0) → (T → I → A) → (T → I → A) → T → T → Type 0
+AlikeIn {I = I} Seen one other v w = (i : I) → Seen i → one v i ≡ other w i
