@@ -2,14 +2,17 @@
 use mathlib.Core.Path.{_≡_, refl, sym, ap, _∙_}
 use mathlib.Core.List.{List}
 use Prim.Native.Nat.{ℕ, zero, suc, _+_, _-_, _*_, _≤_, _<_}
+use native.Mathlib.Nat as N
 use native.Mathlib.Numerals.{add-one}
 use native.Mathlib.Omega.{arith}
 use lib.ListN.{length, set, replicate, length-set}
+use lib.Seq.{getD-set-other}
 use Rattle.residue.specs.Residue.{sub, neg, add, sum}
-use Rattle.residue.specs.Laws.{zero-add, reduce-neg, add-lt}
+use Rattle.residue.specs.Laws.{reduce-small, zero-add, add-zero, add-comm, add-assoc, reduce-neg, add-lt}
 use Rattle.residue.specs.Sum.{sum-last, sum-lt}
-use Rattle.buffers.specs.Positions.{at, set-agrees}
-use Rattle.conversion.specs.Conversion.{extend, lessTwice, xorBit, xorShare}
+use Rattle.buffers.specs.Positions.{at, after, Same, Below, after-after, set-agrees}
+use Rattle.conversion.specs.Conversion.{pairs, extend, lessTwice, xorBit, xorShare, refresh}
+use Rattle.conversion.specs.ZeroSharing.{zeroSharing, refresh-adds}
 use Rattle.conversion.specs.Laws.{lessTwice-one, extend-below, extend-from}
 use Rattle.conversion.specs.Arrays.{Holds}
 
@@ -89,3 +92,103 @@ module _ (q j bit : ℕ) (A r : ℕ → ℕ) where
     where
       none : j ≡ 0 → 0 ≡ sum q j r
       none e = unfold sum in rw e
+
+-- ---- the loops of step 3
+
+pub pairs-less : (n i : ℕ) → i < n → pairs (n - i) ≡ pairs (n - (i + 1)) + (n - (i + 1))
+unfolding pairs
+pairs-less n i h =
+    let e : n - i ≡ suc (n - (i + 1)) = omega arith in
+    rw e
+
+module _ (q : ℕ) (w : ℕ → ℕ) where
+  -- Share i has taken the words from o on with the shares before j, which have lost theirs.
+  pub record Paired (i o : ℕ) (b : List ℕ) (j p : ℕ) (a : List ℕ) (own : ℕ) : Type 0 where
+    pub eight : length a ≡ 8
+    pub place : p + (i + 1) ≡ o + j
+    pub gained : own ≡ add q (at b i) (sum q (j - (i + 1)) (after o w))
+    pub lost : (t : ℕ) → i < t → t < j → at a t ≡ sub q (at b t) (w (o + (t - (i + 1))))
+    pub kept : (t : ℕ) → j ≤ t → at a t ≡ at b t
+
+  -- Before share i, with words from p on: what is wanted of the shares from i on is what these words make of them.
+  pub record Left (n : ℕ) (T : ℕ → ℕ) (i p : ℕ) (a : List ℕ) : Type 0 where
+    pub eight : length a ≡ 8
+    pub below : Below q (n - i) (after i (at a))
+    pub wanted : Same (n - i) (after i T) (λ t. add q (at a (i + t)) (zeroSharing q (n - i) (after p w) t))
+
+  pub left-all : (n : ℕ) (T : ℕ → ℕ) (p : ℕ) (a : List ℕ) → length a ≡ 8 → Below q n (at a) → Same n T (refresh q n (after p w) (at a)) → Left n T 0 p a
+  left-all n T p a e b h =
+      let z : n - 0 ≡ n = omega arith in
+      record { eight = e; below = λ t l. rw (N.zero-add t) (b t (omega arith)); wanted = λ t l. all t (omega arith) ∙ rw (z, N.zero-add t) }
+    where
+      all : (t : ℕ) → t < n → T (0 + t) ≡ add q (at a t) (zeroSharing q n (after p w) t)
+      all t l = ap T (N.zero-add t) ∙ h t l ∙ refresh-adds q n (after p w) (at a) (λ s m. reduce-small q (b s m)) t l
+
+  module _ (n : ℕ) (T : ℕ → ℕ) (i o : ℕ) (b : List ℕ) (L : Left n T i o b) (h : i < n) where
+    pub own-lt : at b i < q
+    own-lt = rw N.add-zero at (L .below 0 (omega arith))
+
+    pub paired-none : Paired i o b (i + 1) o b (at b i)
+    paired-none =
+        let z : i + 1 - (i + 1) ≡ 0 = omega arith in
+        record {
+          eight = L .eight;
+          place = refl;
+          gained = sym (rw z (unfold sum in add-zero q (at b i)) ∙ reduce-small q own-lt);
+          lost = λ t l m. absurd (omega arith);
+          kept = λ t l. refl;
+        }
+
+    module _ (j p : ℕ) (a : List ℕ) (own : ℕ) (P : Paired i o b j p a own) (l : i < j) where
+      pub paired-next : (v z : ℕ) → j < 8 → z ≡ add q own (w p) → v ≡ sub q (at a j) (w p) → Paired i o b (j + 1) (p + 1) (set a j v) z
+      paired-next v z m e d =
+          let k : p ≡ o + (j - (i + 1)) = omega (arith, P .place) in
+          let f : j + 1 - (i + 1) ≡ suc (j - (i + 1)) = omega arith in
+          record {
+            eight = length-set a j v ∙ P .eight;
+            place = omega (arith, P .place);
+            gained = e ∙ rw (P .gained, f, k, add-assoc) (ap (add q (at b i)) (sym (sum-last q (j - (i + 1)) (after o w))));
+            lost = λ t x y. set-agrees a j v (λ t. sub q (at b t) (w (o + (t - (i + 1))))) (omega (arith, P .eight)) (d ∙ rw (P .kept j (omega arith), k)) t (λ c. P .lost t x (omega arith));
+            kept = λ t x. getD-set-other a j t v 0 (omega arith) ∙ P .kept t (omega arith);
+          }
+
+      pub other-lt : j < n → at a j < q
+      other-lt m =
+          let e : i + (j - i) ≡ j = omega arith in
+          rw (P .kept j (omega arith)) (rw e at (L .below (j - i) (omega arith)))
+
+      pub paired-lt : own < q
+      paired-lt = rw (P .gained) (add-lt q (omega (arith, own-lt)) (at b i) (sum q (j - (i + 1)) (after o w)))
+
+      module _ (y : n ≤ j) (x : j ≤ n) where
+        abbrev whole : n - i ≡ suc (n - (i + 1))
+        whole = omega arith
+
+        pub share-done : T i ≡ own
+        unfolding zeroSharing
+        share-done =
+            let e : j - (i + 1) ≡ n - (i + 1) = omega arith in
+            ap T (sym (N.add-zero i)) ∙ L .wanted 0 (omega arith) ∙ rw (whole, N.add-zero i) (sym (P .gained ∙ rw e))
+
+        pub left-next : Left n T (i + 1) p a
+        unfolding zeroSharing
+        left-next =
+            record {
+              eight = P .eight;
+              below = λ t m. rw (loss t m) (add-lt q (omega (arith, own-lt)) _ _);
+              wanted = λ t m. next t m;
+            }
+          where
+            regroup : (x y z : ℕ) → add q x (add q y z) ≡ add q (add q x z) y
+            regroup x y z = ap (add q x) (add-comm q y z) ∙ sym (add-assoc q x z y)
+
+            loss : (t : ℕ) → t < n - (i + 1) → at a (i + 1 + t) ≡ sub q (at b (i + 1 + t)) (w (o + t))
+            loss t m =
+                let e : i + 1 + t - (i + 1) ≡ t = omega arith in
+                P .lost (i + 1 + t) (omega arith) (omega arith) ∙ rw e
+
+            next : (t : ℕ) → t < n - (i + 1) → T (i + 1 + t) ≡ add q (at a (i + 1 + t)) (zeroSharing q (n - (i + 1)) (after p w) t)
+            next t m =
+                let e : i + 1 + t ≡ i + suc t = omega arith in
+                let k : p ≡ o + (n - (i + 1)) = omega (arith, P .place) in
+                rw (loss t m, e, k) (L .wanted (suc t) (omega arith) ∙ rw (whole, after-after o (n - (i + 1)) w) (regroup (at b (i + suc t)) _ (neg q (w (o + t)))))
