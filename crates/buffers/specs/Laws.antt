@@ -5,7 +5,7 @@ use Prim.Native.Nat.{ℕ, suc, _+_, _≤_, _<_}
 use native.Mathlib.Nat as N
 use native.Mathlib.Numerals.{add-one}
 use native.Mathlib.Omega.{arith}
-use lib.ListN.{length, getD, set, take, drop, length-append}
+use lib.ListN.{length, getD, set, take, drop, length-append, List·getD-append}
 use lib.Seq.{take-length, take-at, drop-at, drop-cons, set-at, append-snoc, paste, paste-zero, paste-suc, length-paste}
 use Rattle.buffers.specs.Overwrite.{overwrite}
 
@@ -44,6 +44,9 @@ module _ (l s : List ℕ) where
 
   pub drop-front : drop (length s) (overwrite l 0 s) ≡ drop (length s) l
   drop-front = ap (drop (length s)) (front l s) ∙ drop-at s (drop (length s) l) (length s) refl
+
+  pub front-below : (i : ℕ) → i < length s → getD (overwrite l 0 s) i 0 ≡ getD s i 0
+  front-below i h = ap (λ (k : List ℕ). getD k i 0) (front l s) ∙ List·getD-append s (drop (length s) l) 0 i h
 
   -- one element more behind it
   pub front-snoc : (v : ℕ) → length s < length l → set (overwrite l 0 s) (length s) v ≡ overwrite l 0 (s ++ (v ∷ []))

@@ -1,7 +1,7 @@
 -- Laws of searches, and of going through a list of checks.
 use mathlib.Core.Path.{_≡_, refl, sym, ap, _∙_}
 use mathlib.Core.Bool.{Bool, true, false, cond, not, _&&_, false≢true}
-use mathlib.Core.List.{List, [], _∷_}
+use mathlib.Core.List.{List, [], _∷_, _++_}
 use mathlib.Core.Option.{Option, none, some}
 use Prim.Native.Nat.{ℕ, zero, suc, suc-le-suc, _+_, _≤_, _<_}
 use native.Mathlib.Nat.{le-of-suc-le-suc}
@@ -118,6 +118,19 @@ search-some e g = sym e ∙ ap foundReading g
 abbrev pub Hold : List Check → Type 0
 Hold [] = Unit
 Hold (c ∷ cs) = (c .holds ≡ true) × Hold cs
+
+-- a list of checks in two parts
+pub hold-front : (cs ds : List Check) → Hold (cs ++ ds) → Hold cs
+hold-front [] ds h = tt
+hold-front (c ∷ cs) ds h = (h .0, hold-front cs ds (h .1))
+
+pub hold-rest : (cs ds : List Check) → Hold (cs ++ ds) → Hold ds
+hold-rest [] ds h = h
+hold-rest (c ∷ cs) ds h = hold-rest cs ds (h .1)
+
+pub hold-both : (cs ds : List Check) → Hold cs → Hold ds → Hold (cs ++ ds)
+hold-both [] ds h l = l
+hold-both (c ∷ cs) ds h l = (h .0, hold-both cs ds (h .1) l)
 
 pub accepts : {A : Type 0} (a : A) (cs : List Check) → Hold cs → verdict cs a ≡ accepted a
 accepts a [] h = pass-all a

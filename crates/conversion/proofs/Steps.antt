@@ -8,12 +8,12 @@ use native.Mathlib.Omega.{arith}
 use lib.ListN.{length, set, replicate, length-set}
 use lib.Seq.{getD-set-other}
 use Rattle.residue.specs.Residue.{sub, neg, add, sum}
-use Rattle.residue.specs.Laws.{reduce-small, zero-add, add-zero, add-comm, add-assoc, reduce-neg, add-lt}
+use Rattle.residue.specs.Laws.{reduce-small, reduce-lt, zero-add, add-zero, add-comm, add-assoc, reduce-neg, add-lt}
 use Rattle.residue.specs.Sum.{sum-last, sum-lt}
-use Rattle.buffers.specs.Positions.{at, after, Same, Below, after-after, set-agrees}
-use Rattle.conversion.specs.Conversion.{pairs, extend, lessTwice, xorBit, xorShare, refresh}
-use Rattle.conversion.specs.ZeroSharing.{zeroSharing, refresh-adds}
-use Rattle.conversion.specs.Laws.{lessTwice-one, extend-below, extend-from}
+use Rattle.buffers.specs.Positions.{at, table, table-same, after, Same, Below, after-after, set-agrees}
+use Rattle.conversion.specs.Conversion.{pairs, extend, lessTwice, xorBit, xorShare, convert, refresh, convertBit, bitShares}
+use Rattle.conversion.specs.ZeroSharing.{zeroSharing, refresh-adds, refresh-cong}
+use Rattle.conversion.specs.Laws.{lessTwice-one, extend-below, extend-from, xorShare-cong, convert-reduced, convertBit-local}
 use Rattle.conversion.specs.Arrays.{Holds}
 
 -- ---- a number times a bit
@@ -93,13 +93,41 @@ module _ (q j bit : ℕ) (A r : ℕ → ℕ) where
       none : j ≡ 0 → 0 ≡ sum q j r
       none e = unfold sum in rw e
 
--- ---- the loops of step 3
+-- ---- steps 1 and 2
 
-pub pairs-less : (n i : ℕ) → i < n → pairs (n - i) ≡ pairs (n - (i + 1)) + (n - (i + 1))
+pub pairs-step : (n k : ℕ) → n ≡ suc k → pairs n ≡ pairs k + k
 unfolding pairs
-pairs-less n i h =
-    let e : n - i ≡ suc (n - (i + 1)) = omega arith in
-    rw e
+pairs-step n k e = rw e
+
+pub products : (a b : ℕ) → a ≤ 8 → b ≤ 8 → a * b ≤ 64
+products a b h l = N.mul-le-mul h l
+
+module _ (q : ℕ) (b w : ℕ → ℕ) where
+  pub one-done : (j k v : ℕ) → j ≡ suc k → k ≡ 0 → v ≡ b k → Holds j (convert q j b w) (set (replicate 8 0) 0 v)
+  unfolding convert
+  one-done j k v d e h = rw (d, e) (record { eight = refl; same = λ t l. let z : t ≡ 0 = omega arith in rw z (h ∙ ap b e) })
+
+  pub holds-below : (n : ℕ) (a : List ℕ) → 0 < q → b 0 < q → Holds n (convert q n b w) a → Below q n (at a)
+  holds-below n a p h H i l = rw (H .same i l, ← convert-reduced q n b w h i) (reduce-lt q p (convert q n b w i))
+
+  -- the list for one share more
+  pub share-added : (j k : ℕ) (a c : List ℕ) (r : ℕ → ℕ) (bit : ℕ) → j ≡ suc k → 0 < k → r ≡ after (pairs k) w → bit ≡ b k → Holds k (convert q k b w) a → Holds (k + 1) (xorShare q k (at a) r bit) c → Holds j (convert q j b w) c
+  unfolding convert
+  share-added j zero a c r bit d h s e A R = absurd (omega arith)
+  share-added j (suc m) a c r bit d h s e A R =
+      rw d (record { eight = R .eight; same = λ t l. R .same t (omega arith) ∙ rw e (ap (λ (f : ℕ → ℕ). f t) (xorShare-cong q (suc m) (b (suc m)) _ _ _ _ (A .same) (λ i x. ap (λ (f : ℕ → ℕ). f i) s))) })
+
+  -- and all steps
+  pub bit-done : (n : ℕ) (a : List ℕ) (r : ℕ → ℕ) → b 0 < q → r ≡ after (pairs n) w → Holds n (convert q n b w) a → table n (refresh q n r (at a)) ≡ table n (convertBit q n b w)
+  unfolding convertBit
+  bit-done n a r h e A = rw e (table-same n _ _ (refresh-cong q n (after (pairs n) w) (at a) (convert q n b w) (λ t l. convert-reduced q n b w h t) (A .same)))
+
+-- the shares, from a copy of the bits
+pub shares-of : (n q : ℕ) (b : ℕ → ℕ) (bits words : List ℕ) → b 0 < q → at bits 0 < q → Same n b (at bits) → table n (convertBit q n b (after 0 (at words))) ≡ bitShares n q bits words
+unfolding bitShares
+shares-of n q b bits words h l s = table-same n _ _ (convertBit-local q n b (at bits) (after 0 (at words)) (at words) h l s (λ j m. ap (at words) (N.zero-add j)))
+
+-- ---- the loops of step 3
 
 module _ (q : ℕ) (w : ℕ → ℕ) where
   -- Share i has taken the words from o on with the shares before j, which have lost theirs.

@@ -2,6 +2,7 @@
 use mathlib.Core.Path.{_≡_}
 use mathlib.Core.List.{List}
 use Prim.Native.Nat.{ℕ, _+_, _^_, _≤_, _<_}
+use native.Mathlib.Omega.{arith}
 use lib.ListN.{length}
 use Rattle.buffers.specs.Positions.{at, after, Same, Below}
 
@@ -19,3 +20,8 @@ pub record Drawn (q start count : ℕ) (words : List ℕ) : Type 0 where
 pub record Modulus (q : ℕ) : Type 0 where
   pub large : 2 < q
   pub small : q < 2 ^ 31
+
+-- n of the words, from s on, which is `skipped` behind the start
+pub drawn-part : {q start count : ℕ} {words : List ℕ} (s skipped n : ℕ) → s ≡ start + skipped → skipped + n ≤ count → Drawn q start count words → Drawn q s n words
+drawn-part {start = start} s skipped n e h d =
+    record { room = omega (arith, d .room); below = λ i l. let k : s + i ≡ start + (skipped + i) = omega arith in rw k (d .below (skipped + i) (omega arith)) }

@@ -109,6 +109,11 @@ module _ (q : ℕ) where
       let e : (s : ℕ) → 0 + s ≡ s = N.zero-add in
       rw e at (refreshFrom-adds 0 n w A (λ s l. rw (e s) (r s l)) t h)
 
+  -- it reads the n shares only
+  pub refresh-cong : (n : ℕ) (w A D : ℕ → ℕ) → ((t : ℕ) → t < n → reduce q (D t) ≡ D t) → Same n A D → Same n (refresh q n w A) (refresh q n w D)
+  refresh-cong n w A D r h t l =
+      refresh-adds n w A (λ s m. rw (h s m) (r s m)) t l ∙ rw (h t l) (sym (refresh-adds n w D r t l))
+
   -- ---- its words
 
   pub zeroSharing-local : (n : ℕ) (w v : ℕ → ℕ) → Same (pairs n) w v → Same n (zeroSharing n w) (zeroSharing n v)

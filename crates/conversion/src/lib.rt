@@ -12,7 +12,7 @@ ghost use Rattle.buffers.specs.Overwrite.{overwrite};
 ghost use Rattle.buffers.specs.Positions.{at, table, after, Below};
 ghost use Rattle.checks.specs.Checks.{checked};
 ghost use Rattle.checks.specs.Answers.{checkedReading, outcome};
-ghost use Rattle.conversion.specs.Conversion.{pairs, lessTwice, xorShare, convert, refresh, convertBit, bitChecks, converted};
+ghost use Rattle.conversion.specs.Conversion.{pairs, lessTwice, xorShare, convert, refresh, convertBit, bitWords, bitChecks, converted};
 ghost use Rattle.conversion.specs.Arrays.{Holds, Drawn, Modulus};
 
 // v - 2vb modulo q for a bit b: v, or its negative.
@@ -62,7 +62,15 @@ fn convert(bits: &[u16; 8], j: usize, q: Word, words: &[Word], start: usize) -> 
 }
 
 // Step 3: every pair of the n shares takes a word from `start` on. The shares come to stand at `to` in `out` and behind.
-fn refresh(shares: [Word; 8], n: usize, q: Word, words: &[Word], start: usize, out: &mut [Word], to: usize)
+fn refresh(
+    shares: [Word; 8],
+    n: usize,
+    q: Word,
+    words: &[Word],
+    start: usize,
+    out: &mut [Word],
+    to: usize,
+)
     requires { ⌜ (n ≤ 8) × Modulus q × (length shares ≡ 8) × Below q n (at shares) × Drawn q start (pairs n) (now words) × (to + n ≤ length (now out)) ⌝ }
     ensures { λ _. ⌜ now (out .exit) ≡ overwrite (now (out .entry)) to (table n (refresh q n (after start (at (now (words .entry)))) (at shares))) ⌝ }
 {
@@ -82,8 +90,16 @@ fn refresh(shares: [Word; 8], n: usize, q: Word, words: &[Word], start: usize, o
 }
 
 // The n shares of a bit, from the n(n - 1) words at `start`. They come to stand at `to` in `out` and behind.
-pub fn convert_at(bits: &[u16; 8], n: usize, q: Word, words: &[Word], start: usize, out: &mut [Word], to: usize)
-    requires { ⌜ (1 ≤ n) × (n ≤ 8) × Modulus q × Below 2 n (at (now bits)) × Drawn q start (pairs n + pairs n) (now words) × (to + n ≤ length (now out)) ⌝ }
+pub fn convert_at(
+    bits: &[u16; 8],
+    n: usize,
+    q: Word,
+    words: &[Word],
+    start: usize,
+    out: &mut [Word],
+    to: usize,
+)
+    requires { ⌜ (1 ≤ n) × (n ≤ 8) × Modulus q × Below 2 n (at (now bits)) × Drawn q start (bitWords n) (now words) × (to + n ≤ length (now out)) ⌝ }
     ensures { λ _. ⌜ now (out .exit) ≡ overwrite (now (out .entry)) to (table n (convertBit q n (at (now (bits .entry))) (after start (at (now (words .entry)))))) ⌝ }
 {
     let a = convert(bits, n, q, words, start);

@@ -9,7 +9,7 @@ use Rattle.residue.specs.Laws.{add-lt}
 use Rattle.buffers.specs.Laws.{written, written-none, written-next, written-all}
 use Rattle.buffers.specs.Positions.{at, table, length-table, table-at, after}
 use Rattle.conversion.specs.Conversion.{pairs, refresh}
-use Rattle.conversion.proofs.Steps.{Left, Paired, pairs-less, left-all, paired-none, paired-next, other-lt, paired-lt, share-done, left-next}
+use Rattle.conversion.proofs.Steps.{Left, Paired, pairs-step, left-all, paired-none, paired-next, other-lt, paired-lt, share-done, left-next}
 use borrow.Author.Needs.{needs}
 use Rattle.conversion.proofs.refresh.Statement.{statement}
 use Rattle.conversion.proofs.refresh.Tie as tie
@@ -32,7 +32,7 @@ abbrev μ-loop : tie.MeasureT-loop
 position : (c : tie.In-loop2 Inv-loop2 μ-loop2 Inv-loop μ-loop) → (c .before .before .before .before .before .before .before .before .args .start ≤ c .before .loop2 .p) × (c .before .loop2 .p < c .before .before .before .before .before .before .before .before .args .start + pairs (c .before .before .before .before .before .before .before .before .args .n))
 position c =
     let e = c .before .loop2 .inv .2 .place in
-    let d = pairs-less (c .before .before .before .before .before .before .before .before .args .n) (c .before .before .before .before .loop .i) (c .before .before .before .loop-test .taken) in
+    let d = pairs-step (c .before .before .before .before .before .before .before .before .args .n - c .before .before .before .before .loop .i) (c .before .before .before .before .before .before .before .before .args .n - (c .before .before .before .before .loop .i + 1)) (omega arith) in
     (omega arith, omega arith)
 
 word : (c : tie.After-widen3 Inv-loop2 μ-loop2 Inv-loop μ-loop) → c .widen3 .result < c .before .before .before .before .before .before .before .before .before .before .args .q
@@ -119,11 +119,11 @@ loop2-less c = search needs
 
 loop2-again : tie.Need-loop2-again Inv-loop2 μ-loop2 Inv-loop μ-loop
 loop2-again c = (
-      omega arith,
-      omega arith,
-      paired-next _ _ _ _ _ _ _ (c .before .before .before .before .before .before .before .before .before .before .loop .inv .3) (c .before .before .before .before .before .before .before .before .before .loop-test .taken) _ _ _ _ (c .before .before .before .before .before .before .before .loop2 .inv .2) (c .before .before .before .before .before .before .before .loop2 .inv .0) _ _ (omega arith) (c .before .before .before .add .ensures ∙ rw (c .before .before .before .before .before .before .before .before .before .before .before .widen .ensures, c .before .before .before .before .widen3 .ensures))
+  omega arith,
+  omega arith,
+  paired-next _ _ _ _ _ _ _ (c .before .before .before .before .before .before .before .before .before .before .loop .inv .3) (c .before .before .before .before .before .before .before .before .before .loop-test .taken) _ _ _ _ (c .before .before .before .before .before .before .before .loop2 .inv .2) (c .before .before .before .before .before .before .before .loop2 .inv .0) _ _ (omega arith) (c .before .before .before .add .ensures ∙ rw (c .before .before .before .before .before .before .before .before .before .before .before .widen .ensures, c .before .before .before .before .widen3 .ensures))
       (c .narrow .ensures ∙ c .before .sub .ensures ∙ rw (c .before .before .before .before .before .before .before .before .before .before .before .widen .ensures, c .before .before .widen4 .ensures, c .before .before .before .before .widen3 .ensures)),
-    )
+)
 
 narrow-requires-2 : tie.Need-narrow-requires-2 Inv-loop2 μ-loop2 Inv-loop μ-loop
 narrow-requires-2 c κs = paired-lt _ _ _ _ _ _ _ (c .before .before .before .before .loop .inv .3) (c .before .before .before .loop-test .taken) _ _ _ _ (c .before .loop2 .inv .2) (c .before .loop2 .inv .0)
@@ -150,7 +150,7 @@ loop-again c =
     let l = c .before .before .loop2 in
     let f = refresh (s .q) (s .n) (after (s .start) (at (s .words .now))) (at (s .shares)) in
     let e = l .inv .2 .place in
-    let d = pairs-less (s .n) (o .i) (c .before .before .before .before .loop-test .taken) in
+    let d = pairs-step (s .n - o .i) (s .n - (o .i + 1)) (omega arith) in
     let n : length (table (s .n) f) ≡ s .n = length-table (s .n) f in
     let v = table-at (s .n) f (o .i) (c .before .before .before .before .loop-test .taken) ∙ share-done _ _ _ _ _ _ _ (c .before .before .before .before .before .loop .inv .3) (c .before .before .before .before .loop-test .taken) _ _ _ _ (c .before .before .loop2 .inv .2) (c .before .before .loop2 .inv .0) (c .before .loop2-test .left) (l .inv .1) ∙ sym (c .narrow2 .ensures) in (
       omega arith,

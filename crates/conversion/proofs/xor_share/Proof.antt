@@ -120,14 +120,15 @@ loop-less : tie.Need-loop-less Inv-loop μ-loop
 loop-less c = search needs
 
 loop-again : tie.Need-loop-again Inv-loop μ-loop
-loop-again c =
-    (omega arith,
-    ⊎-elim
-    (λ w. rw (w .7, w .8) (below record { before = record { before = record { before = record { before = record { before = record { before = record { before = c .before; if1 = w .0 }; shared-slice-known2 = w .1 }; widen3 = w .2 }; widen4 = w .3 }; sub = w .4 }; less-twice = w .5 }; add = w .6 }))
-    (⊎-elim
-    (λ w. rw (w .3, w .4) (reached record { before = record { before = record { before = c .before; if1 = w .0 }; if2 = w .1 }; less-twice2 = w .2 }))
-    (λ w. rw (w .2, w .3) (turned-past _ _ _ _ _ _ _ _ (c .before .before .loop .inv .1) (omega (arith, w .0 .left, w .1 .left)))))
-    (c .if1 .came))
+loop-again c = (
+  omega arith,
+  ⊎-elim
+      (λ w. rw (w .7, w .8) (below record { before = record { before = record { before = record { before = record { before = record { before = record { before = c .before; if1 = w .0 }; shared-slice-known2 = w .1 }; widen3 = w .2 }; widen4 = w .3 }; sub = w .4 }; less-twice = w .5 }; add = w .6 }))
+      (⊎-elim
+      (λ w. rw (w .3, w .4) (reached record { before = record { before = record { before = c .before; if1 = w .0 }; if2 = w .1 }; less-twice2 = w .2 }))
+      (λ w. rw (w .2, w .3) (turned-past _ _ _ _ _ _ _ _ (c .before .before .loop .inv .1) (omega (arith, w .0 .left, w .1 .left)))))
+      (c .if1 .came),
+)
 
 array-read-widen-2 : tie.Need-array-read-widen-2 Inv-loop μ-loop
 array-read-widen-2 c = search needs

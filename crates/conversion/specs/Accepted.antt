@@ -1,0 +1,67 @@
+-- What it means, in plain facts, that a call passes its checks.
+use mathlib.Core.Path.{_≡_, ap}
+use mathlib.Core.Bool.{true}
+use mathlib.Core.List.{List}
+use Prim.Native.Nat.{ℕ, _+_, _≤_, _<_}
+use native.Mathlib.Nat as N
+use native.Mathlib.Omega.{arith}
+use borrow.Author.Tests.{leb-true, le-leb, eqb-true}
+use lib.ListN.{length, take}
+use lib.Seq.{getD-take, length-take-le}
+use Rattle.residue.specs.Residue.{EachBelow}
+use Rattle.buffers.specs.Positions.{at, Below}
+use Rattle.checks.specs.Checks.{isNone}
+use Rattle.checks.specs.Laws.{Hold, hold-front, hold-rest, hold-both, within-true, none-each-below, each-below-none}
+use Rattle.conversion.specs.Conversion.{bitWords, sharingChecks, spaceChecks, bitChecks}
+use Rattle.conversion.specs.Arrays.{Drawn, Modulus}
+
+-- n shares of a bit
+pub record SharedBit (n q : ℕ) (bits : List ℕ) : Type 0 where
+  pub two : 2 ≤ n
+  pub eight : n ≤ 8
+  pub modulus : 3 ≤ q
+  pub count : length bits ≡ n
+  pub below : Below 2 n (at bits)
+
+module _ (n q : ℕ) (bits : List ℕ) where
+  pub shared-bit : Hold (sharingChecks n q bits) → SharedBit n q bits
+  shared-bit h =
+      let e : length bits ≡ n = eqb-true _ _ (h .1 .1 .0) in
+      record {
+        two = within-true 2 8 n (h .0) .0;
+        eight = within-true 2 8 n (h .0) .1;
+        modulus = leb-true _ _ (h .1 .0);
+        count = e;
+        below = λ i l. none-each-below 2 bits 0 (h .1 .1 .1 .0) i (omega arith);
+      }
+
+  module _ (words : List ℕ) (room : ℕ) where
+    pub call-sharing : Hold (bitChecks n q bits words room) → SharedBit n q bits
+    call-sharing h = shared-bit (hold-front (sharingChecks n q bits) (spaceChecks n q words room) h)
+
+    space : Hold (bitChecks n q bits words room) → Hold (spaceChecks n q words room)
+    space h = hold-rest (sharingChecks n q bits) (spaceChecks n q words room) h
+
+    pub call-room : Hold (bitChecks n q bits words room) → n ≤ room
+    call-room h = leb-true _ _ (space h .1 .1 .0)
+
+    pub call-drawn : Hold (bitChecks n q bits words room) → Drawn q 0 (bitWords n) words
+    call-drawn h =
+        let e : bitWords n ≤ length words = leb-true _ _ (space h .0) in
+        let m = length-take-le (bitWords n) words e in
+        record {
+          room = omega arith;
+          below = λ i l. rw (N.zero-add i, ← getD-take (bitWords n) words i 0 l) (none-each-below q (take (bitWords n) words) 0 (space h .1 .0) i (omega arith));
+        }
+
+    -- with enough words below q, and room, a shared bit is accepted
+    pub call-holds : Hold (sharingChecks n q bits) → Drawn q 0 (bitWords n) words → n ≤ room → Hold (bitChecks n q bits words room)
+    call-holds h d r = hold-both (sharingChecks n q bits) (spaceChecks n q words room) h (le-leb _ _ e, (ap isNone (each-below-none q (take (bitWords n) words) 0 below), (le-leb _ _ r, tt)))
+      where
+        e : bitWords n ≤ length words
+        e = omega (arith, d .room)
+
+        below : EachBelow q (take (bitWords n) words)
+        below i l =
+            let m : i < bitWords n = omega (arith, length-take-le (bitWords n) words e) in
+            rw (getD-take (bitWords n) words i 0 m) (rw N.zero-add at (d .below i m))
