@@ -1,5 +1,9 @@
 pub mod Conversion
+pub mod Arrays
+pub mod Secrecy
 pub mod ZeroSharing
 pub mod Laws
-pub mod Arrays
 pub mod Accepted
+pub mod Calls
+pub mod Translation
+pub mod SecrecyProof

@@ -1,0 +1,50 @@
+-- No n − 1 shares of a converted bit tell one shared bit from another: the words of step 3 make up for any difference but in one share.
+use mathlib.Core.Path.{_≡_, sym, ap, ap₂, _∙_}
+use mathlib.Core.List.{List}
+use Prim.Native.Nat.{ℕ, _+_, _≤_, _<_}
+use native.Mathlib.Nat as N
+use native.Mathlib.Omega.{arith}
+use lib.ListN.{length}
+use Rattle.buffers.specs.Positions.{at, after, after-zero}
+use Rattle.checks.specs.Checks.{accepted, checked}
+use Rattle.checks.specs.Laws.{Hold, accepted-holds}
+use Rattle.secrecy.specs.Secrecy.{Full}
+use Rattle.secrecy.specs.Laws.{weaken}
+use Rattle.secrecy.specs.Translation.{indistinguishable}
+use Rattle.conversion.specs.Conversion.{pairs, convertBit, bitWords, sharingChecks, bitChecks, converted}
+use Rattle.conversion.specs.Laws.{convertBit-adds}
+use Rattle.conversion.specs.Arrays.{Drawn}
+use Rattle.conversion.specs.Accepted.{SharedBit, shared-bit, call-holds}
+use Rattle.conversion.specs.Calls.{first-lt, call-share, call-converts}
+use Rattle.conversion.specs.Translation.{bitForm, refreshWords, bit-equivariant}
+use Rattle.conversion.specs.Secrecy.{AlikeBut, BitSecrecy}
+
+full-drawn : {q W : ℕ} {ws : List ℕ} → Full q W ws → Drawn q 0 W ws
+full-drawn f = record { room = omega (arith, f .count); below = λ i l. f .below (0 + i) (omega (arith, f .count)) }
+
+module _ (n q : ℕ) (bits : List ℕ) (h : Hold (sharingChecks n q bits)) (words : List ℕ) (f : Full q (bitWords n) words) (out : List ℕ) (r : n ≤ length out) where
+  full-holds : Hold (bitChecks n q bits words (length out))
+  full-holds = call-holds n q bits words (length out) h (full-drawn f) r
+
+  full-share : (i : ℕ) → i < n → at (converted n q bits words out .buffers) i ≡ bitForm q n 0 (at bits) (at words) i
+  unfolding bitForm
+  full-share i l =
+      call-share n q bits words out full-holds i l ∙ convertBit-adds q n (at bits) (at words) (first-lt (shared-bit n q bits h) words) i l
+      ∙ rw (after-zero (at words), N.zero-add (pairs n))
+
+pub bit-secrecy : (n q : ℕ) → BitSecrecy n q
+unfolding BitSecrecy
+bit-secrecy n q ℓ l bits bits′ a a′ =
+    let h = accepted-holds tt tt (sharingChecks n q bits) a in
+    let h′ = accepted-holds tt tt (sharingChecks n q bits′) a′ in
+    let pos : 0 < q = omega (arith, shared-bit n q bits h .modulus) in
+    let fits : 0 + bitWords n ≤ bitWords n = omega arith in
+    weaken
+    (λ v w f g same out out′ r r′. record {
+      one = call-converts n q bits v out (full-holds n q bits h v f out r);
+      other = call-converts n q bits′ w out′ (full-holds n q bits′ h′ w g out′ r′);
+      agree = λ i m d. full-share n q bits h v f out r i m ∙ same i (m, d) ∙ sym (full-share n q bits′ h′ w g out′ r′ i m);
+    })
+    (indistinguishable (refreshWords q pos n ℓ 0 (bitWords n) l fits) pos (bitForm q n 0 (at bits)) (bitForm q n 0 (at bits′))
+    (bit-equivariant q pos n ℓ 0 (bitWords n) l fits (at bits))
+    (bit-equivariant q pos n ℓ 0 (bitWords n) l fits (at bits′)))
