@@ -1,12 +1,15 @@
 -- A list of numbers as a function of the position, and back.
 use mathlib.Core.Path.{_≡_, refl, sym, ap, _∙_, fun-ext}
+use mathlib.Core.Bool.{cond}
 use mathlib.Core.List.{List, [], _∷_, _++_}
 use mathlib.Core.Logic.{_≢_}
-use Prim.Native.Nat.{ℕ, zero, suc, suc-le-suc, _+_, _≤_, _<_}
+use Prim.Native.Nat.{ℕ, zero, suc, suc-le-suc, _+_, _-_, _≤_, _<_}
 use native.Mathlib.Nat as N
 use native.Mathlib.Nat.{suc-inj, suc-ne-zero, not-suc-le-zero, le-of-suc-le-suc}
 use native.Mathlib.Decide.{decLt, ℕ-discrete}
 use native.Mathlib.Omega.{arith}
+use borrow.Author.Tests.{lt-ltb, le-ltb}
+use lib.Dec.{ltb}
 use lib.ListN.{length, getD, set, take, List·getD-eq-default}
 use lib.Seq.{getD-set-same, getD-set-other, getD-take}
 
@@ -23,6 +26,10 @@ table (suc n) f = f zero ∷ table n (λ i. f (suc i))
 abbrev pub after : ℕ → (ℕ → ℕ) → ℕ → ℕ
 after n f i = f (n + i)
 
+-- f below n, and g from there on
+unfoldable pub join : ℕ → (ℕ → ℕ) → (ℕ → ℕ) → ℕ → ℕ
+join n f g j = cond (ltb j n) (f j) (g (j - n))
+
 -- the same at each position below n
 abbrev pub Same : ℕ → (ℕ → ℕ) → (ℕ → ℕ) → Type 0
 Same n f g = (i : ℕ) → i < n → f i ≡ g i
@@ -36,6 +43,15 @@ after-zero f = fun-ext (λ i. ap f (N.zero-add i))
 
 pub after-after : (m n : ℕ) (f : ℕ → ℕ) → after n (after m f) ≡ after (m + n) f
 after-after m n f = fun-ext (λ i. ap f (omega arith))
+
+module _ (n : ℕ) (f g : ℕ → ℕ) where
+  pub join-below : (j : ℕ) → j < n → join n f g j ≡ f j
+  unfolding join
+  join-below j h = rw (lt-ltb j n h)
+
+  pub join-from : (j : ℕ) → join n f g (n + j) ≡ g j
+  unfolding join
+  join-from j = rw (le-ltb (n + j) n (omega arith)) (ap g (omega arith))
 
 -- ---- tables
 

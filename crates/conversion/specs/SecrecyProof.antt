@@ -12,11 +12,10 @@ use Rattle.secrecy.specs.Secrecy.{Full}
 use Rattle.secrecy.specs.Laws.{weaken}
 use Rattle.secrecy.specs.Translation.{indistinguishable}
 use Rattle.conversion.specs.Conversion.{pairs, convertBit, bitWords, sharingChecks, bitChecks, converted}
-use Rattle.conversion.specs.Laws.{convertBit-adds}
 use Rattle.conversion.specs.Arrays.{Drawn}
 use Rattle.conversion.specs.Accepted.{SharedBit, shared-bit, call-holds}
 use Rattle.conversion.specs.Calls.{first-lt, call-share, call-converts}
-use Rattle.conversion.specs.Translation.{bitForm, refreshWords, bit-equivariant}
+use Rattle.conversion.specs.Translation.{bitForm, convertBit-form, refreshWords, bit-equivariant}
 use Rattle.conversion.specs.Secrecy.{AlikeBut, BitSecrecy}
 
 full-drawn : {q W : ℕ} {ws : List ℕ} → Full q W ws → Drawn q 0 W ws
@@ -27,10 +26,9 @@ module _ (n q : ℕ) (bits : List ℕ) (h : Hold (sharingChecks n q bits)) (word
   full-holds = call-holds n q bits words (length out) h (full-drawn f) r
 
   full-share : (i : ℕ) → i < n → at (converted n q bits words out .buffers) i ≡ bitForm q n 0 (at bits) (at words) i
-  unfolding bitForm
   full-share i l =
-      call-share n q bits words out full-holds i l ∙ convertBit-adds q n (at bits) (at words) (first-lt (shared-bit n q bits h) words) i l
-      ∙ rw (after-zero (at words), N.zero-add (pairs n))
+      call-share n q bits words out full-holds i l ∙ ap (λ (w : ℕ → ℕ). convertBit q n (at bits) w i) (sym (after-zero (at words)))
+      ∙ convertBit-form q n 0 (at bits) (at words) (first-lt (shared-bit n q bits h) words) i l
 
 pub bit-secrecy : (n q : ℕ) → BitSecrecy n q
 unfolding BitSecrecy

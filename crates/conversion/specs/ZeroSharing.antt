@@ -12,21 +12,8 @@ use lib.Dec.{ltb, eqb}
 use Rattle.residue.specs.Residue.{reduce, add, neg, sub, sum}
 use Rattle.residue.specs.Laws.{reduce-zero, reduce-reduce, reduce-add, reduce-neg, add-comm, add-assoc, add-left-comm, zero-add, add-zero, add-neg, neg-zero, neg-neg, neg-add}
 use Rattle.residue.specs.Sum.{sum-cong, sum-zero, sum-add, sum-neg, sum-one}
-use Rattle.buffers.specs.Positions.{after, after-zero, Same}
+use Rattle.buffers.specs.Positions.{after, join, Same, join-below, join-from}
 use Rattle.conversion.specs.Conversion.{pairs, transfer, refreshShare, refreshFrom, refresh}
-
--- f below n, and g from there on
-unfoldable pub join : ℕ → (ℕ → ℕ) → (ℕ → ℕ) → ℕ → ℕ
-join n f g j = cond (ltb j n) (f j) (g (j - n))
-
-module _ (n : ℕ) (f g : ℕ → ℕ) where
-  pub join-below : (j : ℕ) → j < n → join n f g j ≡ f j
-  unfolding join
-  join-below j h = rw (lt-ltb j n h)
-
-  pub join-from : (j : ℕ) → join n f g (n + j) ≡ g j
-  unfolding join
-  join-from j = rw (le-ltb (n + j) n (omega arith)) (ap g (omega arith))
 
 -- v at position i, and 0 elsewhere
 abbrev pub only : ℕ → ℕ → ℕ → ℕ

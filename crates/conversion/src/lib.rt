@@ -13,6 +13,7 @@ ghost use Rattle.buffers.specs.Positions.{at, table, after, Below};
 ghost use Rattle.checks.specs.Checks.{checked};
 ghost use Rattle.checks.specs.Answers.{checkedReading, outcome};
 ghost use Rattle.conversion.specs.Conversion.{pairs, lessTwice, xorShare, convert, refresh, convertBit, bitWords, bitChecks, converted};
+ghost use Rattle.conversion.specs.Secrecy.{BitSecrecy};
 ghost use Rattle.conversion.specs.Arrays.{Holds, Drawn, Modulus};
 
 // v - 2vb modulo q for a bit b: v, or its negative.
@@ -139,6 +140,7 @@ fn check_bit(n: usize, q: Word, bits: &[u16], words: &[Word], room: usize) -> Ch
 // Refuses 1, 3 (q below 3), 4, 6 with the share's position, 8, 9 with the word's position, 10.
 pub fn convert_bit(n: usize, q: Word, bits: &[u16], words: &[Word], out: &mut [Word]) -> Answer
     ensures { λ r. ⌜ outcome r (now (out .exit)) ≡ converted n q (now (bits .entry)) (now (words .entry)) (now (out .entry)) ⌝ }
+    ensures secrecy { λ _. ⌜ BitSecrecy n q ⌝ }
 {
     if let Checked::Failed(r) = check_bit(n, q, bits, words, out.len()) {
         return Answer::Refused(r);

@@ -1,5 +1,5 @@
 -- Laws of one-to-one maps and of runs that cannot be told apart.
-use mathlib.Core.Path.{_≡_, sym, ap, _∙_}
+use mathlib.Core.Path.{_≡_, refl, sym, ap, ap₂, _∙_}
 use Rattle.secrecy.specs.Secrecy.{OneToOne, Indistinguishable}
 
 module _ {T : Type 0} {P : T → Type 0} where
@@ -8,7 +8,7 @@ module _ {T : Type 0} {P : T → Type 0} where
   undone-one-to-one {f} {g} there back g-f f-g =
       record { full = there; different = λ v w p r e. sym (g-f v p) ∙ ap g e ∙ g-f w r; origin = g; origin-full = back; image = f-g }
 
-  -- runs that are alike are so in all that follows from it
+  -- what is alike is so in all that follows from it
   pub weaken : {R S : T → T → Type 0} → ((v w : T) → P v → P w → R v w → S v w) → Indistinguishable P R → Indistinguishable P S
   weaken h r =
       record {
@@ -16,3 +16,7 @@ module _ {T : Type 0} {P : T → Type 0} where
         one-to-one = r .one-to-one;
         alike = λ w p. h w (r .map w) p (r .one-to-one .full w p) (r .alike w p);
       }
+
+  -- nothing moved
+  pub unmoved : Indistinguishable P (λ v w. v ≡ w)
+  unmoved = record { map = λ w. w; one-to-one = undone-one-to-one (λ w p. p) (λ w p. p) (λ w p. refl) (λ w p. refl); alike = λ w p. refl }

@@ -2,3 +2,4 @@ pub mod Secrecy
 pub mod Laws
 pub mod Words
 pub mod Translation
+pub mod Blocks

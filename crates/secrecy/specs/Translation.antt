@@ -2,10 +2,11 @@
 -- that are seen is the effect of some move, two runs that both move along with it cannot be told apart: each word list is moved by what the
 -- two runs differ in, and that difference does not see the move.
 use mathlib.Core.Path.{_≡_, sym, ap, _∙_, fun-ext}
-use Prim.Native.Nat.{ℕ, _<_}
+use Prim.Native.Nat.{ℕ, _+_, _-_, _≤_, _<_}
+use native.Mathlib.Omega.{arith}
 use Rattle.residue.specs.Residue.{reduce, add, neg, sub}
-use Rattle.residue.specs.Laws.{add-comm, add-assoc, zero-add, reduce-add, add-reduce-right, reduce-zero, add-lt, neg-zero, sub-shift, add-sub, sub-add, add-sub-cancel}
-use Rattle.buffers.specs.Positions.{at}
+use Rattle.residue.specs.Laws.{add-comm, add-assoc, zero-add, add-zero, reduce-add, add-reduce-right, reduce-zero, add-lt, neg-zero, sub-shift, add-sub, sub-add, add-sub-cancel}
+use Rattle.buffers.specs.Positions.{at, after, join, Same, join-below, join-from}
 use Rattle.secrecy.specs.Secrecy.{Full, Indistinguishable, AlikeIn}
 use Rattle.secrecy.specs.Words.{Reduced, Ends, Undone, full-reduced, onLists, at-onLists, onLists-one-to-one}
 
@@ -96,3 +97,28 @@ module _ {q W : ℕ} {I : Type 0} {Seen : I → Type 0} (T : Translation q W See
           one-to-one = onLists-one-to-one there-undone back-undone;
           alike = λ ws s i l. agree (at ws) (full-reduced s) i l ∙ ap (λ (w : ℕ → ℕ). h w i) (sym (at-onLists there-undone s));
         }
+
+-- ---- moves of the words of one block
+
+-- a move of the words from o to o + c
+pub record Within (o c : ℕ) (e : ℕ → ℕ) : Type 0 where
+  pub before : (j : ℕ) → j < o → e j ≡ 0
+  pub behind : (j : ℕ) → o + c ≤ j → e j ≡ 0
+
+-- such a move keeps the words before and behind
+module _ (q : ℕ) {o c : ℕ} (w e : ℕ → ℕ) (s : Reduced q w) (m : Within o c e) where
+  pub before-stays : Same o (moved q w e) w
+  before-stays j l = rw (m .before j l, add-zero) (s j)
+
+  pub behind-stays : (p : ℕ) → o + c ≤ p → after p (moved q w e) ≡ after p w
+  behind-stays p l = fun-ext (λ j. rw (m .behind (p + j) (omega arith), add-zero) (s (p + j)))
+
+pub within-opposite : (q : ℕ) {o c : ℕ} → 0 < q → (e : ℕ → ℕ) → Within o c e → Within o c (opposite q e)
+within-opposite q pos e m = record { before = λ j l. rw (m .before j l) (neg-zero q pos); behind = λ j l. rw (m .behind j l) (neg-zero q pos) }
+
+-- d's first c values, at o and behind
+pub within-join : (o c : ℕ) (d : ℕ → ℕ) → ((k : ℕ) → d (c + k) ≡ 0) → Within o c (join o (λ j. 0) d)
+within-join o c d z = record { before = join-below o (λ j. 0) d; behind = λ j l. go j (j - (o + c)) (omega arith) }
+  where
+    go : (j k : ℕ) → j ≡ o + (c + k) → join o (λ j. 0) d j ≡ 0
+    go j k p = rw (p, join-from o (λ j. 0) d (c + k)) (z k)

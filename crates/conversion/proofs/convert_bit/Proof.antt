@@ -13,6 +13,7 @@ use Rattle.buffers.specs.Laws.{front-below}
 use Rattle.buffers.specs.Positions.{at, Same}
 use Rattle.conversion.specs.Conversion.{bitChecks, converted}
 use Rattle.conversion.specs.Accepted.{SharedBit, call-sharing, call-room, call-drawn}
+use Rattle.conversion.specs.SecrecyProof.{bit-secrecy}
 use Rattle.conversion.proofs.Steps.{products, shares-of}
 use borrow.Author.Needs.{needs}
 use Rattle.conversion.proofs.convert_bit.Statement.{statement}
@@ -36,8 +37,7 @@ enum-known-r c = search needs
 
 returns : tie.Need-returns
 unfolding converted
-returns c =
-    settles-refused _ _ (c .before .before .before .check-bit .ensures) _ _ _ _ (c .before .r .given .1)
+returns c = (settles-refused _ _ (c .before .before .before .check-bit .ensures) _ _ _ _ (c .before .r .given .1), bit-secrecy _ _)
 
 enum-told : tie.Need-enum-told
 enum-told c = search needs
@@ -78,9 +78,11 @@ returns-2 c =
     let s = shared (c .before .before .before .before .before .before .before .before) in
     let b = s .below 0 (omega (arith, s .two)) in
     let d = copied (c .before .before .before .before .before .before) in
-    let e = shares-of _ (a .q) _ (a .bits .now) (a .words .now) (omega (arith, s .modulus, d 0 (omega (arith, s .two)))) (omega (arith, s .modulus)) d in
-    ap (outcome (Done _)) (c .before .before .convert-at .ensures ∙ ap (overwrite (a .out .now) 0) e)
-    ∙ settles-accepted _ _ (c .before .before .before .before .before .before .before .before .before .before .check-bit .ensures) _ _ _ (c .before .before .before .before .before .before .before .before .enum-told .given .1)
+    let e = shares-of _ (a .q) _ (a .bits .now) (a .words .now) (omega (arith, s .modulus, d 0 (omega (arith, s .two)))) (omega (arith, s .modulus)) d in (
+      ap (outcome (Done _)) (c .before .before .convert-at .ensures ∙ ap (overwrite (a .out .now) 0) e)
+          ∙ settles-accepted _ _ (c .before .before .before .before .before .before .before .before .before .before .check-bit .ensures) _ _ _ (c .before .before .before .before .before .before .before .before .enum-told .given .1),
+      bit-secrecy _ _,
+    )
 
 pub convert-bit-spec : {M : Type 1} → statement M
 convert-bit-spec =
