@@ -97,6 +97,46 @@ fn parameter_set(number: u64) -> Verdict<(u64, u64)> {
     }
 }
 
+/// Steps 1 and 2: the list for the first j shares of a bit. It takes the next words of `words`.
+fn convert_shares(j: usize, q: u64, bits: &[u64], words: &mut impl Iterator<Item = u64>) -> Vec<u64> {
+    if j == 1 {
+        return vec![bits[0]];
+    }
+    let a = convert_shares(j - 1, q, bits, words);
+    let r: Vec<u64> = words.take(j - 1).collect();
+    let mut b: Vec<u64> = (0..j - 1).map(|i| (a[i] + q - r[i]) % q).collect();
+    b.push(r.iter().sum::<u64>() % q);
+    let mut c: Vec<u64> = b.iter().map(|x| (x + 2 * q - 2 * x * bits[j - 1]) % q).collect();
+    c[0] = (c[0] + bits[j - 1]) % q;
+    c
+}
+
+fn convert_bit(n: u64, q: u64, bits: &[u64], words: &[u64], out: &mut [u64]) -> Verdict<u64> {
+    ask((2..=8).contains(&n), 1, 0)?;
+    ask(q >= 3, 3, 0)?;
+    ask(bits.len() as u64 == n, 4, 0)?;
+    ask_all(bits, 6, |b| b == 0 || b == 1)?;
+    let taken = n * (n - 1);
+    ask(words.len() as u64 >= taken, 8, 0)?;
+    ask_all(&words[..taken as usize], 9, |w| w < q)?;
+    ask(out.len() as u64 >= n, 10, 0)?;
+    let n = n as usize;
+    let mut words = words[..taken as usize].iter().copied();
+    let mut shares = convert_shares(n, q, bits, &mut words);
+    for i in 0..n {
+        for m in i + 1..n {
+            let r = words.next().expect("a word for each pair");
+            shares[i] = (shares[i] + r) % q;
+            shares[m] = (shares[m] + q - r) % q;
+        }
+    }
+    assert_eq!(words.next(), None, "every word is taken");
+    // What the shares are for: their sum is the bit, the XOR of its shares.
+    assert_eq!(shares.iter().sum::<u64>() % q, bits.iter().sum::<u64>() % 2);
+    out[..n].copy_from_slice(&shares);
+    Ok(taken)
+}
+
 /// A line's inputs: a name, and the numbers behind it. The call's own name is the first.
 struct Inputs {
     fields: Vec<(String, Vec<u64>)>,
@@ -163,6 +203,11 @@ fn expected(i: &Inputs, met: &mut BTreeMap<u64, usize>) -> String {
         "mask" => {
             let mut out = i.list("out").to_vec();
             let verdict = mask(i.number("n"), i.number("k"), i.number("value"), i.list("masks"), &mut out);
+            ending(verdict, |x| format!(" gives {x}"), met) + " out" + &spaced(&out)
+        }
+        "convert_bit" => {
+            let mut out = i.list("out").to_vec();
+            let verdict = convert_bit(i.number("n"), i.number("q"), i.list("bits"), i.list("words"), &mut out);
             ending(verdict, |x| format!(" gives {x}"), met) + " out" + &spaced(&out)
         }
         "open_string" => ending(open_string(i.number("n"), i.number("k"), i.list("shares")), |x| format!(" gives {x}"), met),

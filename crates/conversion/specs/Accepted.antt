@@ -1,8 +1,7 @@
 -- What it means, in plain facts, that a call passes its checks.
 use mathlib.Core.Path.{_≡_, ap}
-use mathlib.Core.Bool.{true}
 use mathlib.Core.List.{List}
-use Prim.Native.Nat.{ℕ, _+_, _≤_, _<_}
+use Prim.Native.Nat.{ℕ, _≤_, _<_}
 use native.Mathlib.Nat as N
 use native.Mathlib.Omega.{arith}
 use borrow.Author.Tests.{leb-true, le-leb, eqb-true}
@@ -13,7 +12,7 @@ use Rattle.buffers.specs.Positions.{at, Below}
 use Rattle.checks.specs.Checks.{isNone}
 use Rattle.checks.specs.Laws.{Hold, hold-front, hold-rest, hold-both, within-true, none-each-below, each-below-none}
 use Rattle.conversion.specs.Conversion.{bitWords, sharingChecks, spaceChecks, bitChecks}
-use Rattle.conversion.specs.Arrays.{Drawn, Modulus}
+use Rattle.conversion.specs.Arrays.{Drawn}
 
 -- n shares of a bit
 pub record SharedBit (n q : ℕ) (bits : List ℕ) : Type 0 where

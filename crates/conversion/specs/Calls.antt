@@ -1,11 +1,11 @@
 -- What holds of every accepted call.
 use mathlib.Core.Path.{_≡_, refl, sym, ap, _∙_}
 use mathlib.Core.List.{List}
-use Prim.Native.Nat.{ℕ, _≤_, _<_}
+use Prim.Native.Nat.{ℕ, _<_}
 use native.Mathlib.Omega.{arith}
 use lib.ListN.{length, take}
 use lib.Seq.{getD-take}
-use Rattle.residue.specs.Residue.{reduce, total, sum, EachBelow}
+use Rattle.residue.specs.Residue.{reduce, total, EachBelow}
 use Rattle.residue.specs.Laws.{reduce-small}
 use Rattle.residue.specs.Sum.{sum-cong, sum-list}
 use Rattle.buffers.specs.Overwrite.{overwrite}

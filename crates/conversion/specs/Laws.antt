@@ -1,14 +1,12 @@
 -- What crates above may use of the conversion: its shares are below q, they sum to the XOR of the bits, and which words it reads.
 use mathlib.Core.Path.{_≡_, refl, sym, ap, ap₂, _∙_, fun-ext}
-use mathlib.Core.Bool.{cond}
-use Prim.Native.Nat.{ℕ, zero, suc, suc-le-suc, _+_, _-_, _*_, _/_, _≤_, _<_}
+use Prim.Native.Nat.{ℕ, zero, suc, _+_, _-_, _*_, _/_, _≤_, _<_}
 use native.Mathlib.Decide.{decLt}
 use native.Mathlib.Omega.{arith}
 use borrow.Author.Tests.{lt-ltb, le-ltb}
 use lib.Bits.{bitXor, xor-self, xor-zero-r}
-use lib.Dec.{ltb}
 use Rattle.residue.specs.Residue.{reduce, add, neg, sub, sum}
-use Rattle.residue.specs.Laws.{reduce-small, reduce-zero, reduce-reduce, reduce-add, reduce-neg, reduce-plus, add-reduce-left, neg-reduce, add-comm, add-assoc, add-left-comm, add-zero, zero-add, add-lt, add-neg, neg-zero, neg-add, add-sub-cancel}
+use Rattle.residue.specs.Laws.{reduce-small, reduce-zero, reduce-reduce, reduce-add, reduce-neg, reduce-plus, add-reduce-left, neg-reduce, add-comm, add-assoc, add-left-comm, add-zero, zero-add, add-lt, add-neg, neg-zero, neg-add}
 use Rattle.residue.specs.Sum.{sum-cong, reduce-sum, sum-reduce, sum-last, sum-add, sum-neg}
 use Rattle.buffers.specs.Positions.{table, length-table, table-at, table-last, after, Same, Below}
 use Rattle.masking.specs.Sharing.{xorAll}

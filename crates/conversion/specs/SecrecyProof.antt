@@ -1,22 +1,20 @@
 -- No n − 1 shares of a converted bit tell one shared bit from another: the words of step 3 make up for any difference but in one share.
-use mathlib.Core.Path.{_≡_, sym, ap, ap₂, _∙_}
+use mathlib.Core.Path.{_≡_, sym, ap, _∙_}
 use mathlib.Core.List.{List}
 use Prim.Native.Nat.{ℕ, _+_, _≤_, _<_}
-use native.Mathlib.Nat as N
 use native.Mathlib.Omega.{arith}
 use lib.ListN.{length}
-use Rattle.buffers.specs.Positions.{at, after, after-zero}
-use Rattle.checks.specs.Checks.{accepted, checked}
+use Rattle.buffers.specs.Positions.{at, after-zero}
 use Rattle.checks.specs.Laws.{Hold, accepted-holds}
 use Rattle.secrecy.specs.Secrecy.{Full}
 use Rattle.secrecy.specs.Laws.{weaken}
 use Rattle.secrecy.specs.Translation.{indistinguishable}
-use Rattle.conversion.specs.Conversion.{pairs, convertBit, bitWords, sharingChecks, bitChecks, converted}
+use Rattle.conversion.specs.Conversion.{convertBit, bitWords, sharingChecks, bitChecks, converted}
 use Rattle.conversion.specs.Arrays.{Drawn}
-use Rattle.conversion.specs.Accepted.{SharedBit, shared-bit, call-holds}
+use Rattle.conversion.specs.Accepted.{shared-bit, call-holds}
 use Rattle.conversion.specs.Calls.{first-lt, call-share, call-converts}
 use Rattle.conversion.specs.Translation.{bitForm, convertBit-form, refreshWords, bit-equivariant}
-use Rattle.conversion.specs.Secrecy.{AlikeBut, BitSecrecy}
+use Rattle.conversion.specs.Secrecy.{BitSecrecy}
 
 full-drawn : {q W : ℕ} {ws : List ℕ} → Full q W ws → Drawn q 0 W ws
 full-drawn f = record { room = omega (arith, f .count); below = λ i l. f .below (0 + i) (omega (arith, f .count)) }

@@ -3,12 +3,12 @@
 use mathlib.Core.Path.{_≡_, refl, sym, ap, _∙_, fun-ext}
 use mathlib.Core.Bool.{cond}
 use mathlib.Core.Logic.{_≢_}
-use Prim.Native.Nat.{ℕ, zero, suc, _+_, _-_, _≤_, _<_}
+use Prim.Native.Nat.{ℕ, zero, suc, _+_, _-_, _<_}
 use native.Mathlib.Nat as N
 use native.Mathlib.Nat.{not-suc-le-zero, le-of-suc-le-suc}
 use native.Mathlib.Omega.{arith}
-use borrow.Author.Tests.{lt-ltb, le-ltb, eq-eqb, ne-eqb}
-use lib.Dec.{ltb, eqb}
+use borrow.Author.Tests.{eq-eqb, ne-eqb}
+use lib.Dec.{eqb}
 use Rattle.residue.specs.Residue.{reduce, add, neg, sub, sum}
 use Rattle.residue.specs.Laws.{reduce-zero, reduce-reduce, reduce-add, reduce-neg, add-comm, add-assoc, add-left-comm, zero-add, add-zero, add-neg, neg-zero, neg-neg, neg-add}
 use Rattle.residue.specs.Sum.{sum-cong, sum-zero, sum-add, sum-neg, sum-one}

@@ -1,6 +1,7 @@
 // Every call on document 01's reference values and on unfit input: a line for each call, with its inputs, its answer and, where it has
 // one, its whole output.
 mod print;
+mod table;
 
 use checks::Answer;
 use checks::Checked;
@@ -11,6 +12,14 @@ use masking::SetAnswer;
 use masking::SignedAnswer;
 use masking::StringAnswer;
 use residue::Word;
+use table::WORDS;
+
+fn counted(answer: Answer) {
+    match answer {
+        Answer::Done(count) => print::gives(count),
+        Answer::Refused(r) => print::refused(r),
+    }
+}
 
 fn mask(n: usize, k: usize, value: u16, masks: &[u16], out: &mut [u16]) {
     print::field(b"mask n", n);
@@ -18,10 +27,7 @@ fn mask(n: usize, k: usize, value: u16, masks: &[u16], out: &mut [u16]) {
     print::field(b" value", value as usize);
     print::shares(b" masks", masks);
     print::shares(b" out", out);
-    match masking::mask(n, k, OpenedString(value), masks, out) {
-        Answer::Done(count) => print::gives(count),
-        Answer::Refused(r) => print::refused(r),
-    }
+    counted(masking::mask(n, k, OpenedString(value), masks, out));
     print::shares(b" out", out);
     print::line();
 }
@@ -96,6 +102,23 @@ fn parameter_set(number: usize) {
         SetAnswer::Refused(r) => print::refused(r),
     }
     print::line();
+}
+
+fn convert_bit(n: usize, q: Word, bits: &[u16], words: &[Word], out: &mut [Word]) {
+    print::field(b"convert_bit n", n);
+    print::field(b" q", residue::to_usize(q));
+    print::shares(b" bits", bits);
+    print::words(b" words", words);
+    print::words(b" out", out);
+    counted(conversion::convert_bit(n, q, bits, words, out));
+    print::words(b" out", out);
+    print::line();
+}
+
+// With an output of nine positions.
+fn convert_nine(n: usize, q: Word, bits: &[u16], words: &[Word]) {
+    let mut out: [Word; 9] = [65535; 9];
+    convert_bit(n, q, bits, words, &mut out);
 }
 
 // Value e, into three, four and two positions.
@@ -188,6 +211,98 @@ fn sets() {
     }
 }
 
+// Document 01's bit of x of value a, and other sharings of both bits.
+fn two_shares() {
+    let mut two: [Word; 2] = [65535; 2];
+    convert_bit(2, 17, &[1, 0], &[5, 3], &mut two);
+    convert_nine(2, 17, &[0, 1], &[5, 3]);
+    convert_nine(2, 17, &[0, 1], &[0, 0]);
+    convert_nine(2, 17, &[0, 0], &[0, 16]);
+    convert_nine(2, 17, &[1, 1], &[16, 0]);
+    convert_nine(2, 3, &[1, 1], &[2, 2]);
+    convert_nine(2, 65535, &[1, 0], &[65534, 65534, 65535]);
+}
+
+// From four shares on it matters which pair takes which word.
+fn three_and_four_shares() {
+    let words: [Word; 14] = [3, 14, 1, 15, 9, 2, 6, 5, 11, 8, 16, 0, 65535, 65535];
+    let mut four: [Word; 4] = [65535; 4];
+    convert_nine(3, 3, &[1, 1, 1], &[2, 0, 1, 1, 2, 2]);
+    convert_nine(3, 12289, &[0, 1, 0], &[12288, 1, 6144, 6145, 12287, 0]);
+    convert_bit(4, 17, &[1, 1, 0, 1], &words[..12], &mut four);
+    convert_nine(4, 17, &[0, 1, 1, 0], &words);
+    convert_nine(4, 3329, &[1, 1, 1, 1], &WORDS[..12]);
+}
+
+fn five_to_eight_shares() {
+    let mut eight: [Word; 8] = [65535; 8];
+    convert_nine(5, 3329, &[0, 1, 1, 0, 1], &WORDS[..20]);
+    convert_nine(6, 12289, &[1, 1, 0, 1, 0, 1], &WORDS[..30]);
+    convert_nine(7, 3329, &[0, 1, 0, 0, 1, 1, 1], &WORDS[..42]);
+    convert_bit(8, 3329, &[0, 1, 1, 0, 1, 0, 0, 1], &WORDS[..56], &mut eight);
+    convert_nine(8, 12289, &[1, 0, 1, 1, 0, 1, 0, 1], &WORDS);
+}
+
+// The largest words there are at the largest and at the smallest q.
+fn largest_words() {
+    let words: [Word; 56] = [65534; 56];
+    convert_nine(4, 65535, &[0, 1, 0, 1], &words[..12]);
+    convert_nine(8, 65535, &[0, 0, 0, 0, 0, 0, 0, 0], &words);
+    convert_nine(8, 65535, &[1, 1, 1, 1, 1, 1, 1, 0], &words);
+    convert_nine(8, 3, &[1, 0, 0, 1, 0, 0, 1, 1], &[2; 56]);
+}
+
+fn unfit_parameters() {
+    convert_nine(0, 17, &[], &[]);
+    convert_nine(1, 17, &[1], &[]);
+    convert_nine(9, 17, &[1; 9], &[1; 72]);
+    convert_nine(18446744073709551615, 17, &[1, 0], &[5, 3]);
+    convert_nine(2, 2, &[1, 0], &[1, 0]);
+    convert_nine(2, 0, &[1, 0], &[5, 3]);
+}
+
+fn unfit_bits() {
+    let words: [Word; 6] = [5, 3, 16, 0, 9, 12];
+    convert_nine(3, 17, &[1, 0], &words);
+    convert_nine(3, 17, &[1, 0, 1, 0], &words);
+    convert_nine(3, 17, &[], &words);
+    convert_nine(3, 17, &[2, 0, 1], &words);
+    convert_nine(3, 17, &[1, 0, 65535], &words);
+    convert_nine(3, 17, &[1, 3, 2], &words);
+}
+
+fn unfit_words() {
+    let bits: [u16; 3] = [1, 0, 1];
+    convert_nine(3, 17, &bits, &[5, 3, 16, 0, 9]);
+    convert_nine(3, 17, &bits, &[]);
+    convert_nine(3, 17, &bits, &[17, 3, 16, 0, 9, 12]);
+    convert_nine(3, 17, &bits, &[5, 3, 16, 0, 9, 17]);
+    convert_nine(3, 17, &bits, &[5, 3, 18, 0, 65535, 12]);
+    convert_nine(4, 3328, &[1, 0, 1, 0], &WORDS[..12]);
+    convert_nine(8, 12289, &[1, 0, 1, 0, 1, 0, 1, 0], &WORDS[1..]);
+}
+
+fn unfit_outputs() {
+    let bits: [u16; 3] = [1, 0, 1];
+    let mut two: [Word; 2] = [65535; 2];
+    let mut none: [Word; 0] = [];
+    convert_bit(3, 17, &bits, &[5, 3, 16, 0, 9, 12], &mut two);
+    convert_bit(3, 17, &bits, &[5, 3, 16, 0, 9, 12, 65535], &mut two);
+    convert_bit(3, 17, &bits, &[5, 3, 16, 0, 9, 12], &mut none);
+}
+
+// Each fails a check and the next one. The first that fails is answered.
+fn unfit_twice() {
+    let words: [Word; 6] = [5, 3, 17, 0, 9, 12];
+    let mut two: [Word; 2] = [65535; 2];
+    convert_nine(1, 2, &[1], &words);
+    convert_nine(3, 2, &[1, 0], &words);
+    convert_nine(3, 17, &[2, 0], &words);
+    convert_nine(3, 17, &[1, 0, 2], &words[..5]);
+    convert_nine(3, 17, &[1, 0, 1], &words[..5]);
+    convert_bit(3, 17, &[1, 0, 1], &words, &mut two);
+}
+
 fn main() {
     masks();
     unfit_sizes();
@@ -197,4 +312,13 @@ fn main() {
     centred();
     weights();
     sets();
+    two_shares();
+    three_and_four_shares();
+    five_to_eight_shares();
+    largest_words();
+    unfit_parameters();
+    unfit_bits();
+    unfit_words();
+    unfit_outputs();
+    unfit_twice();
 }

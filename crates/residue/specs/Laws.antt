@@ -7,6 +7,13 @@ use native.Mathlib.Decide.{decLt}
 use native.Mathlib.Omega.{arith}
 use Rattle.residue.specs.Residue.{reduce, add, mul, neg, sub}
 
+-- equal operands, and an equal modulus
+pub add-cong : {q r a b c d : ℕ} → q ≡ r → a ≡ b → c ≡ d → add q a c ≡ add r b d
+add-cong e f g = rw (e, f, g)
+
+pub sub-cong : {q r a b c d : ℕ} → q ≡ r → a ≡ b → c ≡ d → sub q a c ≡ sub r b d
+sub-cong e f g = rw (e, f, g)
+
 module _ (q : ℕ) where
   -- ---- reducing
 

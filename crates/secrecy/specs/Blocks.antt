@@ -7,16 +7,15 @@ use native.Mathlib.Decide.{decLt}
 use native.Mathlib.Omega.{arith}
 use lib.ListN.{length, getD, take, drop, length-append, length-take, length-drop, take-append-drop, List·getD-append}
 use lib.Seq.{take-at, drop-at, getD-append-add}
-use Rattle.residue.specs.Residue.{EachBelow}
 use Rattle.residue.specs.Sum.{each-below-take, each-below-drop}
 use Rattle.secrecy.specs.Secrecy.{Full, OneToOne, Indistinguishable}
 
 module _ (q A B : ℕ) where
   pub full-take : {ws : List ℕ} → Full q (A + B) ws → Full q A (take A ws)
-  full-take {ws} h = record { count = length-take A ws ∙ omega (arith, h .count); below = each-below-take q A ws (h .below) }
+  full-take {ws} h = record { count = length-take A ws ∙ omega (arith, h .count); below = each-below-take _ A ws (h .below) }
 
   pub full-drop : {ws : List ℕ} → Full q (A + B) ws → Full q B (drop A ws)
-  full-drop {ws} h = record { count = length-drop A ws ∙ omega (arith, h .count); below = each-below-drop q A ws (h .below) }
+  full-drop {ws} h = record { count = length-drop A ws ∙ omega (arith, h .count); below = each-below-drop _ A ws (h .below) }
 
   pub full-append : {us vs : List ℕ} → Full q A us → Full q B vs → Full q (A + B) (us ++ vs)
   full-append {us} {vs} h l = record { count = length-append us vs ∙ omega (arith, h .count, l .count); below = λ i m. go i m (decLt i (length us)) }

@@ -1,5 +1,5 @@
 -- Laws of one-to-one maps and of runs that cannot be told apart.
-use mathlib.Core.Path.{_≡_, refl, sym, ap, ap₂, _∙_}
+use mathlib.Core.Path.{_≡_, refl, sym, ap, _∙_}
 use Rattle.secrecy.specs.Secrecy.{OneToOne, Indistinguishable}
 
 module _ {T : Type 0} {P : T → Type 0} where

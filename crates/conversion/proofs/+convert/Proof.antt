@@ -2,9 +2,9 @@
 use mathlib.Core.Path.{_≡_, sym, ap, _∙_}
 use native.Mathlib.Omega.{arith}
 use Rattle.buffers.specs.Positions.{at, after, after-after}
-use Rattle.conversion.specs.Conversion.{pairs, xorShare}
+use Rattle.conversion.specs.Conversion.{pairs}
 use Rattle.conversion.specs.Laws.{pairs-half}
-use Rattle.conversion.specs.Arrays.{Holds, Drawn, drawn-part}
+use Rattle.conversion.specs.Arrays.{drawn-part}
 use Rattle.conversion.proofs.Steps.{products, pairs-step, one-done, holds-below, share-added}
 use borrow.Author.Needs.{needs}
 use Prim.Native.Nat.{ℕ, _+_, _-_, _*_, _/_, _<_}

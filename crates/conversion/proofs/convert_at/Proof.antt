@@ -1,6 +1,5 @@
 -- Steps 1 and 2 with the first half of the words, step 3 with the second.
 use mathlib.Core.Path.{_≡_, sym, ap, _∙_}
-use mathlib.Core.List.{List}
 use Prim.Native.Nat.{ℕ, _+_, _-_, _*_, _/_}
 use native.Mathlib.Omega.{arith}
 use Rattle.buffers.specs.Overwrite.{overwrite}

@@ -1,9 +1,8 @@
 -- The checks' verdict; a refusal comes before anything is written, and behind the checks the conversion is ready.
-use mathlib.Core.Path.{_≡_, sym, ap, _∙_}
+use mathlib.Core.Path.{ap, _∙_}
 use mathlib.Core.List.{List}
-use Prim.Native.Nat.{ℕ, _+_, _-_, _*_, _≤_, _<_}
+use Prim.Native.Nat.{ℕ, _-_}
 use native.Mathlib.Omega.{arith}
-use borrow.Author.Tests.{leb-true, eqb-true}
 use lib.ListN.{length}
 use Rattle.checks.specs.declared.Answer.the-variants.{Done}
 use Rattle.checks.specs.Answers.{outcome}

@@ -1,9 +1,8 @@
 -- The two parts of v that the bit parts it into add up to v, so their difference is in reach of one correction.
-use mathlib.Core.Path.{_≡_, ap, _∙_}
-use Prim.Native.Nat.{ℕ, _-_, _*_, _<_}
+use mathlib.Core.Path.{_≡_, refl, _∙_}
 use native.Mathlib.Omega.{arith}
 use borrow.Author.Needs.{needs}
-use Rattle.residue.specs.Residue.{sub}
+use Rattle.residue.specs.Laws.{sub-cong}
 use Rattle.conversion.specs.Conversion.{lessTwice}
 use Rattle.conversion.proofs.Steps.{bit-parts, sub-parts, lessTwice-lt}
 use Rattle.conversion.proofs.less_twice.Statement.{statement}
@@ -13,7 +12,7 @@ use Rattle.conversion.proofs.less_twice.Tie as tie
 difference : (c : tie.After-sub) → c .sub .result ≡ lessTwice (c .before .before .args .q) (c .before .before .args .b) (c .before .before .args .v)
 difference c =
     let s = c .before .before .args in
-    c .sub .ensures ∙ ap (λ (m : ℕ). sub m (s .v * (1 - s .b)) (s .v * s .b)) (c .before .widen .ensures) ∙ sub-parts (s .q) (s .v) (s .b) (omega arith) (c .before .before .pre .1)
+    c .sub .ensures ∙ sub-cong (c .before .widen .ensures) refl refl ∙ sub-parts (s .q) (s .v) (s .b) (omega arith) (c .before .before .pre .1)
 
 sub-sub : tie.Need-sub-sub
 sub-sub c = search needs

@@ -1,11 +1,10 @@
 -- Share after share: a share gains its words in a local and is then written, and those behind it lose theirs in the array.
-use mathlib.Core.Path.{_≡_, refl, sym, ap, _∙_}
-use mathlib.Core.List.{List}
-use Prim.Native.Nat.{ℕ, _+_, _-_, _≤_, _<_}
+use mathlib.Core.Path.{_≡_, refl, sym, _∙_}
+use Prim.Native.Nat.{_+_, _-_, _≤_, _<_}
 use native.Mathlib.Omega.{arith}
-use lib.ListN.{length, set, length-set}
+use lib.ListN.{length, length-set}
 use Rattle.residue.specs.Residue.{add, sub}
-use Rattle.residue.specs.Laws.{add-lt}
+use Rattle.residue.specs.Laws.{add-cong, sub-cong, add-lt}
 use Rattle.buffers.specs.Laws.{written, written-none, written-next, written-all}
 use Rattle.buffers.specs.Positions.{at, table, length-table, table-at, after}
 use Rattle.conversion.specs.Conversion.{pairs, refresh}
@@ -43,6 +42,17 @@ word c =
     let e : s .args .start + (p - s .args .start) ≡ p = omega arith in
     rw (c .widen3 .ensures) (rw e at (s .pre .4 .below (p - s .args .start) (omega arith)))
 
+-- the shares of a pair are below q
+own : (c : tie.At-loop2 Inv-loop2 μ-loop2 Inv-loop μ-loop) → c .loop2 .own < c .before .before .before .before .before .before .before .args .q
+own c = paired-lt _ _ _ _ _ _ _ (c .before .before .before .loop .inv .3) (c .before .before .loop-test .taken) _ _ _ _ (c .loop2 .inv .2) (c .loop2 .inv .0)
+
+other : (c : tie.In-loop2 Inv-loop2 μ-loop2 Inv-loop μ-loop) → at (c .before .loop2 .a) (c .before .loop2 .j) < c .before .before .before .before .before .before .before .before .args .q
+other c = other-lt _ _ _ _ _ _ _ (c .before .before .before .before .loop .inv .3) (c .before .before .before .loop-test .taken) _ _ _ _ (c .before .loop2 .inv .2) (c .before .loop2 .inv .0) (c .loop2-test .taken)
+
+-- and so are the operands of the difference
+operands : (c : tie.After-widen4 Inv-loop2 μ-loop2 Inv-loop μ-loop) → (c .widen4 .result < c .before .before .before .before .before .before .before .before .before .before .before .before .args .q) × (c .before .before .widen3 .result < c .before .before .before .before .before .before .before .before .before .before .before .before .args .q)
+operands c = (rw (c .widen4 .ensures) (other (c .before .before .before .before)), word (c .before .before))
+
 widen-requires : tie.Need-widen-requires Inv-loop2 μ-loop2 Inv-loop μ-loop
 widen-requires c κs = search needs
 
@@ -79,9 +89,7 @@ widen-requires-3 c κs = search needs
 add-requires : tie.Need-add-requires Inv-loop2 μ-loop2 Inv-loop μ-loop
 add-requires c κs =
     let m : c .before .before .before .before .before .before .before .widen .result ≡ c .before .before .before .before .before .before .before .before .before .before .args .q = c .before .before .before .before .before .before .before .widen .ensures in
-    let own : c .before .before .before .loop2 .own < c .before .before .before .before .before .before .before .before .before .before .args .q = paired-lt _ _ _ _ _ _ _ (c .before .before .before .before .before .before .loop .inv .3) (c .before .before .before .before .before .loop-test .taken) _ _ _ _ (c .before .before .before .loop2 .inv .2) (c .before .before .before .loop2 .inv .0) in
-    let r = word c in
-    (omega arith, omega arith, omega (arith, c .before .before .before .before .before .before .before .before .before .before .pre .1 .small))
+    (omega (arith, own (c .before .before .before)), omega (arith, word c), omega (arith, c .before .before .before .before .before .before .before .before .before .before .pre .1 .small))
 
 mul-widen-3 : tie.Need-mul-widen-3 Inv-loop2 μ-loop2 Inv-loop μ-loop
 mul-widen-3 c = search needs
@@ -95,8 +103,7 @@ widen-requires-4 c κs = search needs
 sub-requires : tie.Need-sub-requires Inv-loop2 μ-loop2 Inv-loop μ-loop
 sub-requires c κs =
     let m : c .before .before .before .before .before .before .before .before .before .widen .result ≡ c .before .before .before .before .before .before .before .before .before .before .before .before .args .q = c .before .before .before .before .before .before .before .before .before .widen .ensures in
-    let v : c .widen4 .result < c .before .before .before .before .before .before .before .before .before .before .before .before .args .q = rw (c .widen4 .ensures) (other-lt _ _ _ _ _ _ _ (c .before .before .before .before .before .before .before .before .loop .inv .3) (c .before .before .before .before .before .before .before .loop-test .taken) _ _ _ _ (c .before .before .before .before .before .loop2 .inv .2) (c .before .before .before .before .before .loop2 .inv .0) (c .before .before .before .before .loop2-test .taken)) in
-    let r = word (c .before .before) in
+    let h = operands c in
     (omega arith, omega arith, omega (arith, c .before .before .before .before .before .before .before .before .before .before .before .before .pre .1 .small))
 
 narrow-requires : tie.Need-narrow-requires Inv-loop2 μ-loop2 Inv-loop μ-loop
@@ -121,12 +128,12 @@ loop2-again : tie.Need-loop2-again Inv-loop2 μ-loop2 Inv-loop μ-loop
 loop2-again c = (
   omega arith,
   omega arith,
-  paired-next _ _ _ _ _ _ _ (c .before .before .before .before .before .before .before .before .before .before .loop .inv .3) (c .before .before .before .before .before .before .before .before .before .loop-test .taken) _ _ _ _ (c .before .before .before .before .before .before .before .loop2 .inv .2) (c .before .before .before .before .before .before .before .loop2 .inv .0) _ _ (omega arith) (c .before .before .before .add .ensures ∙ rw (c .before .before .before .before .before .before .before .before .before .before .before .widen .ensures, c .before .before .before .before .widen3 .ensures))
-      (c .narrow .ensures ∙ c .before .sub .ensures ∙ rw (c .before .before .before .before .before .before .before .before .before .before .before .widen .ensures, c .before .before .widen4 .ensures, c .before .before .before .before .widen3 .ensures)),
+  paired-next _ _ _ _ _ _ _ (c .before .before .before .before .before .before .before .before .before .before .loop .inv .3) (c .before .before .before .before .before .before .before .before .before .loop-test .taken) _ _ _ _ (c .before .before .before .before .before .before .before .loop2 .inv .2) (c .before .before .before .before .before .before .before .loop2 .inv .0) _ _ (omega arith) (c .before .before .before .add .ensures ∙ add-cong (c .before .before .before .before .before .before .before .before .before .before .before .widen .ensures) refl (c .before .before .before .before .widen3 .ensures))
+      (c .narrow .ensures ∙ c .before .sub .ensures ∙ sub-cong (c .before .before .before .before .before .before .before .before .before .before .before .widen .ensures) (c .before .before .widen4 .ensures) (c .before .before .before .before .widen3 .ensures)),
 )
 
 narrow-requires-2 : tie.Need-narrow-requires-2 Inv-loop2 μ-loop2 Inv-loop μ-loop
-narrow-requires-2 c κs = paired-lt _ _ _ _ _ _ _ (c .before .before .before .before .loop .inv .3) (c .before .before .before .loop-test .taken) _ _ _ _ (c .before .loop2 .inv .2) (c .before .loop2 .inv .0)
+narrow-requires-2 c κs = own (c .before)
 
 add-out : tie.Need-add-out Inv-loop2 μ-loop2 Inv-loop μ-loop
 add-out c = search needs

@@ -1,14 +1,12 @@
 -- The loop's turns up to j write the shares, those behind j nothing; then the bit is added to the first share.
 use mathlib.Core.Logic.{⊎-elim}
-use mathlib.Core.Path.{_≡_, sym, ap, ap₂, _∙_}
-use mathlib.Core.List.{List}
-use Prim.Native.Nat.{ℕ, _+_, _-_, _≤_, _<_}
+use mathlib.Core.Path.{_≡_, refl, _∙_}
+use Prim.Native.Nat.{_+_, _-_, _≤_, _<_}
 use native.Mathlib.Omega.{arith}
-use lib.ListN.{length, set}
+use lib.ListN.{set}
 use Rattle.residue.specs.Residue.{add, sub}
-use Rattle.residue.specs.Laws.{add-lt}
+use Rattle.residue.specs.Laws.{add-cong, sub-cong, add-lt}
 use Rattle.buffers.specs.Positions.{at, after}
-use Rattle.conversion.specs.Conversion.{lessTwice}
 use Rattle.conversion.proofs.Steps.{lessTwice-lt, Turned, turned-none, turned-below, turned-at, turned-past, turned-lt, turned-all}
 use borrow.Author.Needs.{needs}
 use Rattle.conversion.proofs.xor_share.Statement.{statement}
@@ -26,14 +24,14 @@ word c = rw (c .widen3 .ensures) (c .before .before .before .before .before .bef
 
 -- A(i) − r(i)
 difference : (c : tie.After-sub Inv-loop μ-loop) → c .sub .result ≡ sub (c .before .before .before .before .before .before .before .before .before .before .args .q) (at (c .before .before .before .before .before .before .before .before .before .before .args .t1) (c .before .before .before .before .before .before .loop .i)) (at (c .before .before .before .before .before .before .before .before .before .before .args .words .now) (c .before .before .before .before .before .before .before .before .before .before .args .start + c .before .before .before .before .before .before .loop .i))
-difference c = c .sub .ensures ∙ rw (c .before .before .before .before .before .before .before .before .widen .ensures, c .before .widen4 .ensures, c .before .before .widen3 .ensures)
+difference c = c .sub .ensures ∙ sub-cong (c .before .before .before .before .before .before .before .before .widen .ensures) (c .before .widen4 .ensures) (c .before .before .widen3 .ensures)
 
 -- a turn before j, at j, and behind it
 below : (c : tie.After-add Inv-loop μ-loop) → Turned (c .before .before .before .before .before .before .before .before .before .before .before .before .args .q) (c .before .before .before .before .before .before .before .before .before .before .before .before .args .j) (c .before .before .before .before .before .before .before .before .before .before .before .before .args .bit) (at (c .before .before .before .before .before .before .before .before .before .before .before .before .args .t1)) (after (c .before .before .before .before .before .before .before .before .before .before .before .before .args .start) (at (c .before .before .before .before .before .before .before .before .before .before .before .before .args .words .now))) (c .before .before .before .before .before .before .before .before .loop .i + 1) (set (c .before .before .before .before .before .before .before .before .loop .c) (c .before .before .before .before .before .before .before .before .loop .i) (c .before .less-twice .result)) (c .add .result)
 below c =
     turned-below _ _ _ _ _ _ _ _ (c .before .before .before .before .before .before .before .before .loop .inv .1) _ _ (omega arith) (omega arith)
     (c .before .less-twice .ensures ∙ rw (c .before .before .before .before .before .before .before .before .before .widen2 .ensures, difference (c .before .before)))
-    (c .add .ensures ∙ rw (c .before .before .before .before .before .before .before .before .before .before .widen .ensures, c .before .before .before .before .widen3 .ensures))
+    (c .add .ensures ∙ add-cong (c .before .before .before .before .before .before .before .before .before .before .widen .ensures) refl (c .before .before .before .before .widen3 .ensures))
 
 reached : (c : tie.After-less-twice2 Inv-loop μ-loop) → Turned (c .before .before .before .before .before .before .before .before .args .q) (c .before .before .before .before .before .before .before .before .args .j) (c .before .before .before .before .before .before .before .before .args .bit) (at (c .before .before .before .before .before .before .before .before .args .t1)) (after (c .before .before .before .before .before .before .before .before .args .start) (at (c .before .before .before .before .before .before .before .before .args .words .now))) (c .before .before .before .before .loop .i + 1) (set (c .before .before .before .before .loop .c) (c .before .before .before .before .loop .i) (c .less-twice2 .result)) (c .before .before .before .before .loop .sum)
 reached c =
@@ -155,7 +153,7 @@ array-write-c-3 c = search needs
 returns : tie.Need-returns Inv-loop μ-loop
 returns c =
     turned-all _ _ _ _ _ _ _ _ (c .before .before .before .before .loop .inv .1) _ (omega arith)
-    (c .narrow .ensures ∙ c .before .add2 .ensures ∙ rw (c .before .before .before .before .before .before .widen .ensures, c .before .before .widen5 .ensures, c .before .before .before .before .before .widen2 .ensures))
+    (c .narrow .ensures ∙ c .before .add2 .ensures ∙ add-cong (c .before .before .before .before .before .before .widen .ensures) (c .before .before .widen5 .ensures) (c .before .before .before .before .before .widen2 .ensures))
 
 pub xor-share-spec : {M : Type 1} → statement M
 xor-share-spec =
