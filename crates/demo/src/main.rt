@@ -217,7 +217,7 @@ fn two_shares() {
     convert_bit(2, 17, &[1, 0], &[5, 3], &mut two);
     convert_nine(2, 17, &[0, 1], &[5, 3]);
     convert_nine(2, 17, &[0, 1], &[0, 0]);
-    convert_nine(2, 17, &[0, 0], &[0, 16]);
+    convert_nine(2, 17, &[0, 0], &[5, 4]);
     convert_nine(2, 17, &[1, 1], &[16, 0]);
     convert_nine(2, 3, &[1, 1], &[2, 2]);
     convert_nine(2, 65535, &[1, 0], &[65534, 65534, 65535]);

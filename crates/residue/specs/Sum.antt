@@ -2,11 +2,12 @@
 use mathlib.Core.Path.{_≡_, refl, sym, ap, _∙_}
 use mathlib.Core.List.{List, [], _∷_, _++_}
 use mathlib.Core.Logic.{_≢_}
-use Prim.Native.Nat.{ℕ, zero, suc, _+_, _<_, suc-le-suc}
+use Prim.Native.Nat.{ℕ, zero, suc, _+_, _-_, _<_, suc-le-suc}
 use native.Mathlib.Nat as N
+use native.Mathlib.Decide.{decLt}
 use native.Mathlib.Omega.{arith}
-use lib.ListN.{length, getD, take, drop, length-take, length-drop, take-append-drop}
-use lib.Seq.{getD-take, getD-drop}
+use lib.ListN.{length, getD, take, drop, length-append, length-take, length-drop, take-append-drop, List·getD-append}
+use lib.Seq.{getD-take, getD-drop, getD-append-add}
 use Rattle.residue.specs.Residue.{reduce, add, mul, neg, sum, total, EachBelow}
 use Rattle.residue.specs.Laws.{reduce-zero, reduce-lt, reduce-reduce, reduce-plus, reduce-add, add-reduce-left, add-reduce-right, add-comm, add-assoc, add-left-comm, zero-add, add-zero, mul-add, mul-zero, neg-zero, neg-add}
 
@@ -31,6 +32,15 @@ module _ (q h : ℕ) (l : List ℕ) where
   pub total-split : add q (reduce q (total (take h l))) (reduce q (total (drop h l))) ≡ reduce q (total l)
   total-split =
       rw (add-reduce-left, add-reduce-right) (sym (reduce-plus q (total (take h l)) (total (drop h l))) ∙ ap (reduce q) (sym (total-append (take h l) (drop h l)) ∙ ap total (take-append-drop h l)))
+
+pub each-below-append : (q : ℕ) (k l : List ℕ) → EachBelow q k → EachBelow q l → EachBelow q (k ++ l)
+each-below-append q k l a b i m = go (decLt i (length k))
+  where
+    go : Dec (i < length k) → getD (k ++ l) i 0 < q
+    go (yes h) = rw (List·getD-append k l 0 i h) (a i h)
+    go (no h) =
+        let e : i ≡ length k + (i - length k) = omega arith in
+        rw (ap (λ (j : ℕ). getD (k ++ l) j 0) e ∙ getD-append-add k l (i - length k) 0) (b (i - length k) (omega (arith, length-append k l)))
 
 -- ---- over an index
 

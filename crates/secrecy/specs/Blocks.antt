@@ -1,13 +1,12 @@
--- Words in two blocks, one behind the other: what each block hides, both hide together. So do several blocks with an output left out for
--- each, and a block inside a longer list, around which nothing is moved.
+-- Words in two blocks, one behind the other: two runs over each block that cannot be told apart cannot be told apart together. This serves
+-- several blocks with an output left out for each, and a block inside a longer list, around which nothing is moved.
 use mathlib.Core.Path.{_≡_, sym, ap, ap₂, _∙_}
 use mathlib.Core.List.{List, _++_}
-use Prim.Native.Nat.{ℕ, _+_, _-_, _<_}
-use native.Mathlib.Decide.{decLt}
+use Prim.Native.Nat.{ℕ, _+_}
 use native.Mathlib.Omega.{arith}
-use lib.ListN.{length, getD, take, drop, length-append, length-take, length-drop, take-append-drop, List·getD-append}
-use lib.Seq.{take-at, drop-at, getD-append-add}
-use Rattle.residue.specs.Sum.{each-below-take, each-below-drop}
+use lib.ListN.{take, drop, length-append, length-take, length-drop, take-append-drop}
+use lib.Seq.{take-at, drop-at}
+use Rattle.residue.specs.Sum.{each-below-take, each-below-drop, each-below-append}
 use Rattle.secrecy.specs.Secrecy.{Full, OneToOne, Indistinguishable}
 
 module _ (q A B : ℕ) where
@@ -18,13 +17,7 @@ module _ (q A B : ℕ) where
   full-drop {ws} h = record { count = length-drop A ws ∙ omega (arith, h .count); below = each-below-drop _ A ws (h .below) }
 
   pub full-append : {us vs : List ℕ} → Full q A us → Full q B vs → Full q (A + B) (us ++ vs)
-  full-append {us} {vs} h l = record { count = length-append us vs ∙ omega (arith, h .count, l .count); below = λ i m. go i m (decLt i (length us)) }
-    where
-      go : (i : ℕ) → i < length (us ++ vs) → Dec (i < length us) → getD (us ++ vs) i 0 < q
-      go i m (yes k) = rw (List·getD-append us vs 0 i k) (h .below i k)
-      go i m (no k) =
-          let e : i ≡ length us + (i - length us) = omega arith in
-          rw (ap (λ (j : ℕ). getD (us ++ vs) j 0) e ∙ getD-append-add us vs (i - length us) 0) (l .below (i - length us) (omega (arith, length-append us vs)))
+  full-append {us} {vs} h l = record { count = length-append us vs ∙ omega (arith, h .count, l .count); below = each-below-append _ us vs (h .below) (l .below) }
 
   module _ {R S : List ℕ → List ℕ → Type 0} (r : Indistinguishable (Full q A) R) (s : Indistinguishable (Full q B) S) where
     -- each block by its own map
