@@ -1,4 +1,4 @@
--- From one shared bit to n numbers (document 01, 'From one shared bit to n numbers'; source 003, Algorithm 5).
+-- From one shared bit to n numbers: document 01's steps 1, 2 and 3 (source 003, Algorithm 5), and the call.
 -- Shares and words are functions of the position. Shares are counted from 0 here, from 1 on the page.
 use mathlib.Core.Bool.{cond}
 use mathlib.Core.List.{List, [], _∷_, _++_}
@@ -10,15 +10,15 @@ use Rattle.buffers.specs.Overwrite.{overwrite}
 use Rattle.buffers.specs.Positions.{at, table, after}
 use Rattle.checks.specs.Checks.{Check, Outcome, verdict, settled, shareCount, modulusAtLeast, exactly, narrow, atLeast, allBelow}
 
--- how many pairs n shares have: the words of step 2 up to j = n, and those of step 3
+-- how many pairs n shares have. Steps 1 and 2 take that many words, and step 3 again.
 unfoldable pub pairs : ℕ → ℕ
 pairs zero = 0
 pairs (suc n) = pairs n + n
 
 module _ (q : ℕ) where
-  -- ---- steps 1 and 2 (source 003, Algorithms 6 and 7)
+  -- ---- step 2 (source 003, Algorithm 7)
 
-  -- B(i) = A(i) − r(i) for the j shares A, and one share more: the sum of the r
+  -- From the list A of j shares (j − 1 on the page) and the next j words r: B(i) = A(i) − r(i), and behind them one share more, the sum of the r.
   unfoldable pub extend : ℕ → (ℕ → ℕ) → (ℕ → ℕ) → ℕ → ℕ
   extend j A r i = cond (ltb i j) (sub q (A i) (r i)) (sum q j r)
 
@@ -31,11 +31,13 @@ module _ (q : ℕ) where
   xorBit b B zero = add q (lessTwice b (B zero)) b
   xorBit b B (suc i) = lessTwice b (B (suc i))
 
-  -- Step 2: the list for j + 1 shares of the bit, from the list A for j, the next j words r and the next share b
+  -- the list for one share more, with the next share b of the bit
   unfoldable pub xorShare : ℕ → (ℕ → ℕ) → (ℕ → ℕ) → ℕ → ℕ → ℕ
   xorShare j A r b = xorBit b (extend j A r)
 
-  -- One share: b(1) alone. For more, all but the last are converted first.
+  -- ---- steps 1 and 2 (source 003, Algorithm 6)
+
+  -- One share: the list is b(1) alone. For more, all but the last are converted first.
   unfoldable pub convert : ℕ → (ℕ → ℕ) → (ℕ → ℕ) → ℕ → ℕ
   convert zero b w = λ i. 0
   convert (suc zero) b w = λ i. b 0
@@ -47,12 +49,12 @@ module _ (q : ℕ) where
   unfoldable pub transfer : ℕ → ℕ → ℕ → (ℕ → ℕ) → ℕ → ℕ
   transfer i m r A s = cond (eqb s i) (add q (A s) r) (cond (eqb s m) (sub q (A s) r) (A s))
 
-  -- share i with each of the c shares from m on, in their order
+  -- the pairs of share i with the c shares from m on, in their order
   unfoldable pub refreshShare : ℕ → ℕ → ℕ → (ℕ → ℕ) → (ℕ → ℕ) → ℕ → ℕ
   refreshShare i m zero w A = A
   refreshShare i m (suc c) w A = refreshShare i (suc m) c (λ j. w (suc j)) (transfer i m (w 0) A)
 
-  -- share i with those behind it, then the next share with those behind it, and so on: all pairs of the c shares from i on
+  -- the pairs of the c shares from i on: those of share i, then those of the next, and so on
   unfoldable pub refreshFrom : ℕ → ℕ → (ℕ → ℕ) → (ℕ → ℕ) → ℕ → ℕ
   refreshFrom i zero w A = A
   refreshFrom i (suc c) w A = refreshFrom (suc i) c (after c w) (refreshShare i (suc i) c w A)

@@ -29,20 +29,21 @@ fn xor_share(a: [Word; 8], j: usize, bit: Word, q: Word, words: &[Word], start: 
     requires { ⌜ (1 ≤ j) × (j < 8) × (bit < 2) × Modulus q × Below q j (at a) × Drawn q start j (now words) ⌝ }
     ensures { λ r. ⌜ Holds (j + 1) (xorShare q j (at a) (after start (at (now (words .entry)))) bit) r ⌝ }
 {
-    let m = residue::widen(q);
+    let modulus = residue::widen(q);
     let b = residue::widen(bit);
     let mut c: [Word; 8] = [0; 8];
     let mut sum: Wide = 0;
+    // Eight turns whatever j is, so that the loop can be unrolled.
     for i in 0..8 {
         if i < j {
             let r = residue::widen(words[start + i]);
-            c[i] = less_twice(residue::sub(residue::widen(a[i]), r, m), b, q);
-            sum = residue::add(sum, r, m);
+            c[i] = less_twice(residue::sub(residue::widen(a[i]), r, modulus), b, q);
+            sum = residue::add(sum, r, modulus);
         } else if i == j {
             c[i] = less_twice(sum, b, q);
         }
     }
-    c[0] = residue::narrow(residue::add(residue::widen(c[0]), b, m), q);
+    c[0] = residue::narrow(residue::add(residue::widen(c[0]), b, modulus), q);
     c
 }
 
@@ -75,15 +76,15 @@ fn refresh(
     requires { ⌜ (n ≤ 8) × Modulus q × (length shares ≡ 8) × Below q n (at shares) × Drawn q start (pairs n) (now words) × (to + n ≤ length (now out)) ⌝ }
     ensures { λ _. ⌜ now (out .exit) ≡ overwrite (now (out .entry)) to (table n (refresh q n (after start (at (now (words .entry)))) (at shares))) ⌝ }
 {
-    let m = residue::widen(q);
+    let modulus = residue::widen(q);
     let mut a = shares;
     let mut p = start;
     for i in 0..n {
         let mut own = residue::widen(a[i]);
-        for j in i + 1..n {
+        for m in i + 1..n {
             let r = residue::widen(words[p]);
-            own = residue::add(own, r, m);
-            a[j] = residue::narrow(residue::sub(residue::widen(a[j]), r, m), q);
+            own = residue::add(own, r, modulus);
+            a[m] = residue::narrow(residue::sub(residue::widen(a[m]), r, modulus), q);
             p += 1;
         }
         out[to + i] = residue::narrow(own, q);

@@ -14,18 +14,18 @@ use Rattle.conversion.proofs.refresh.Statement.{statement}
 use Rattle.conversion.proofs.refresh.Tie as tie
 
 abbrev Inv-loop2 : tie.InvT-loop2
-Inv-loop2 n q words start out to m a₀ p₀ i own₀ j₀ a p own j = (i < j) × (j ≤ n) × Paired q (at words) i p₀ a₀ j p a own
+Inv-loop2 n q words start out to modulus a₀ p₀ i own₀ m₀ a p own m = (i < m) × (m ≤ n) × Paired q (at words) i p₀ a₀ m p a own
 
 abbrev μ-loop2 : tie.MeasureT-loop2
-μ-loop2 n q words start out to m a₀ p₀ i own₀ j₀ a p own j = n - j
+μ-loop2 n q words start out to modulus a₀ p₀ i own₀ m₀ a p own m = n - m
 
 abbrev Inv-loop : tie.InvT-loop
-Inv-loop n q words start out₀ to m a₀ p₀ i₀ out a p i =
+Inv-loop n q words start out₀ to modulus a₀ p₀ i₀ out a p i =
     let T = refresh q n (after start (at words)) (at a₀) in
     (i ≤ n) × (start ≤ p) × (p + pairs (n - i) ≡ start + pairs n) × Left q (at words) n T i p a × (out ≡ written out₀ to (table n T) i) × (length out ≡ length out₀)
 
 abbrev μ-loop : tie.MeasureT-loop
-μ-loop n q words start out₀ to m a₀ p₀ i₀ out a p i = n - i
+μ-loop n q words start out₀ to modulus a₀ p₀ i₀ out a p i = n - i
 
 -- the words of a share's pairs lie among those of step 3
 position : (c : tie.In-loop2 Inv-loop2 μ-loop2 Inv-loop μ-loop) → (c .before .before .before .before .before .before .before .before .args .start ≤ c .before .loop2 .p) × (c .before .loop2 .p < c .before .before .before .before .before .before .before .before .args .start + pairs (c .before .before .before .before .before .before .before .before .args .n))
@@ -46,7 +46,7 @@ word c =
 own : (c : tie.At-loop2 Inv-loop2 μ-loop2 Inv-loop μ-loop) → c .loop2 .own < c .before .before .before .before .before .before .before .args .q
 own c = paired-lt _ _ _ _ _ _ _ (c .before .before .before .loop .inv .3) (c .before .before .loop-test .taken) _ _ _ _ (c .loop2 .inv .2) (c .loop2 .inv .0)
 
-other : (c : tie.In-loop2 Inv-loop2 μ-loop2 Inv-loop μ-loop) → at (c .before .loop2 .a) (c .before .loop2 .j) < c .before .before .before .before .before .before .before .before .args .q
+other : (c : tie.In-loop2 Inv-loop2 μ-loop2 Inv-loop μ-loop) → at (c .before .loop2 .a) (c .before .loop2 .m) < c .before .before .before .before .before .before .before .before .args .q
 other c = other-lt _ _ _ _ _ _ _ (c .before .before .before .before .loop .inv .3) (c .before .before .before .loop-test .taken) _ _ _ _ (c .before .loop2 .inv .2) (c .before .loop2 .inv .0) (c .loop2-test .taken)
 
 -- and so are the operands of the difference
@@ -71,8 +71,8 @@ array-read-widen c = search needs
 widen-requires-2 : tie.Need-widen-requires-2 Inv-loop2 μ-loop2 Inv-loop μ-loop
 widen-requires-2 c κs = search needs
 
-add-j : tie.Need-add-j Inv-loop2 μ-loop2 Inv-loop μ-loop
-add-j c = search needs
+add-m : tie.Need-add-m Inv-loop2 μ-loop2 Inv-loop μ-loop
+add-m c = search needs
 
 loop2-holds : tie.Need-loop2-holds Inv-loop2 μ-loop2 Inv-loop μ-loop
 loop2-holds c = (omega arith, omega arith, rw (c .widen2 .ensures) (paired-none _ _ _ _ _ _ _ (c .before .before .loop .inv .3) (c .before .loop-test .taken)))
@@ -118,8 +118,8 @@ array-write-a c = search needs
 add-p : tie.Need-add-p Inv-loop2 μ-loop2 Inv-loop μ-loop
 add-p c = omega (arith, position (c .before .before .before .before .before .before), c .before .before .before .before .before .before .before .before .before .before .before .before .before .before .pre .4 .room)
 
-add-j-2 : tie.Need-add-j-2 Inv-loop2 μ-loop2 Inv-loop μ-loop
-add-j-2 c = search needs
+add-m-2 : tie.Need-add-m-2 Inv-loop2 μ-loop2 Inv-loop μ-loop
+add-m-2 c = search needs
 
 loop2-less : tie.Need-loop2-less Inv-loop2 μ-loop2 Inv-loop μ-loop
 loop2-less c = search needs
@@ -189,7 +189,7 @@ refresh-spec =
     mul-widen
     array-read-widen
     widen-requires-2
-    add-j
+    add-m
     loop2-holds
     mul-widen-2
     shared-slice-read-widen
@@ -203,7 +203,7 @@ refresh-spec =
     mul-a
     array-write-a
     add-p
-    add-j-2
+    add-m-2
     loop2-less
     loop2-again
     narrow-requires-2

@@ -13,10 +13,10 @@ use Rattle.conversion.proofs.xor_share.Statement.{statement}
 use Rattle.conversion.proofs.xor_share.Tie as tie
 
 abbrev Inv-loop : tie.InvT-loop
-Inv-loop j bit q words start a m b c₀ sum₀ i₀ c sum i = (i ≤ 8) × Turned q j bit (at a) (after start (at words)) i c sum
+Inv-loop j bit q words start a modulus b c₀ sum₀ i₀ c sum i = (i ≤ 8) × Turned q j bit (at a) (after start (at words)) i c sum
 
 abbrev μ-loop : tie.MeasureT-loop
-μ-loop j bit q words start a m b c₀ sum₀ i₀ c sum i = 8 - i
+μ-loop j bit q words start a modulus b c₀ sum₀ i₀ c sum i = 8 - i
 
 -- the word of a turn
 word : (c : tie.After-widen3 Inv-loop μ-loop) → c .widen3 .result < c .before .before .before .before .before .before .before .before .args .q
