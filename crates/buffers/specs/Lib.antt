@@ -1,3 +1,4 @@
 pub mod Overwrite
 pub mod Laws
 pub mod Positions
+pub mod PositionLaws

@@ -1,17 +1,10 @@
 -- A list of numbers as a function of the position, and back.
-use mathlib.Core.Path.{_≡_, refl, sym, ap, _∙_, fun-ext}
+use mathlib.Core.Path.{_≡_}
 use mathlib.Core.Bool.{cond}
-use mathlib.Core.List.{List, [], _∷_, _++_}
-use mathlib.Core.Logic.{_≢_}
-use Prim.Native.Nat.{ℕ, zero, suc, suc-le-suc, _+_, _-_, _≤_, _<_}
-use native.Mathlib.Nat as N
-use native.Mathlib.Nat.{suc-inj, suc-ne-zero, not-suc-le-zero, le-of-suc-le-suc}
-use native.Mathlib.Decide.{decLt, ℕ-discrete}
-use native.Mathlib.Omega.{arith}
-use borrow.Author.Tests.{lt-ltb, le-ltb}
+use mathlib.Core.List.{List, [], _∷_}
+use Prim.Native.Nat.{ℕ, zero, suc, _+_, _-_, _<_}
 use lib.Dec.{ltb}
-use lib.ListN.{length, getD, set, List·getD-eq-default}
-use lib.Seq.{getD-set-same, getD-set-other}
+use lib.ListN.{getD}
 
 -- the number at a position, and 0 behind the end
 abbrev pub at : List ℕ → ℕ → ℕ
@@ -37,69 +30,3 @@ Same n f g = (i : ℕ) → i < n → f i ≡ g i
 -- below q at each position below n
 abbrev pub Below : ℕ → ℕ → (ℕ → ℕ) → Type 0
 Below q n f = (i : ℕ) → i < n → f i < q
-
-pub after-zero : (f : ℕ → ℕ) → after 0 f ≡ f
-after-zero f = fun-ext (λ i. ap f (N.zero-add i))
-
-pub after-after : (m n : ℕ) (f : ℕ → ℕ) → after n (after m f) ≡ after (m + n) f
-after-after m n f = fun-ext (λ i. ap f (omega arith))
-
-module _ (n : ℕ) (f g : ℕ → ℕ) where
-  pub join-below : (j : ℕ) → j < n → join n f g j ≡ f j
-  unfolding join
-  join-below j h = rw (lt-ltb j n h)
-
-  pub join-from : (j : ℕ) → join n f g (n + j) ≡ g j
-  unfolding join
-  join-from j = rw (le-ltb (n + j) n (omega arith)) (ap g (omega arith))
-
--- ---- tables
-
-pub length-table : (n : ℕ) (f : ℕ → ℕ) → length (table n f) ≡ n
-unfolding table
-length-table zero f = refl
-length-table (suc n) f = ap suc (length-table n (λ i. f (suc i)))
-
-pub table-at : (n : ℕ) (f : ℕ → ℕ) (i : ℕ) → i < n → at (table n f) i ≡ f i
-unfolding table
-table-at zero f i h = absurd (not-suc-le-zero h)
-table-at (suc n) f zero h = refl
-table-at (suc n) f (suc i) h = table-at n (λ i. f (suc i)) i (le-of-suc-le-suc h)
-
-pub table-same : (n : ℕ) (f g : ℕ → ℕ) → Same n f g → table n f ≡ table n g
-unfolding table
-table-same zero f g h = refl
-table-same (suc n) f g h = rw (h zero (omega arith), table-same n (λ i. f (suc i)) (λ i. g (suc i)) (λ i l. h (suc i) (suc-le-suc l)))
-
-pub table-last : (n : ℕ) (f : ℕ → ℕ) → table (suc n) f ≡ table n f ++ (f n ∷ [])
-unfolding table
-table-last zero f = refl
-table-last (suc n) f = ap (λ (l : List ℕ). f zero ∷ l) (table-last n (λ i. f (suc i)))
-
--- a list is the table of itself
-pub table-list : (n : ℕ) (l : List ℕ) → length l ≡ n → table n (at l) ≡ l
-unfolding table
-table-list zero [] e = refl
-table-list zero (a ∷ l) e = absurd (suc-ne-zero (length l) e)
-table-list (suc n) [] e = absurd (suc-ne-zero n (sym e))
-table-list (suc n) (a ∷ l) e = ap (λ (r : List ℕ). a ∷ r) (table-list n l (suc-inj e))
-
--- a function that is 0 from n on is all in its table
-pub list-table : (n : ℕ) (f : ℕ → ℕ) → ((i : ℕ) → n ≤ i → f i ≡ 0) → at (table n f) ≡ f
-list-table n f h = fun-ext (λ i. go i (decLt i n))
-  where
-    go : (i : ℕ) → Dec (i < n) → at (table n f) i ≡ f i
-    go i (yes l) = table-at n f i l
-    go i (no g) =
-        let l : n ≤ i = omega arith in
-        List·getD-eq-default (table n f) 0 (omega (arith, length-table n f)) ∙ sym (h i l)
-
--- ---- one position stored
-
--- where the list agrees with f but perhaps at position i, and f i is stored there
-pub set-agrees : (l : List ℕ) (i v : ℕ) (f : ℕ → ℕ) → i < length l → v ≡ f i → (j : ℕ) → (j ≢ i → at l j ≡ f j) → at (set l i v) j ≡ f j
-set-agrees l i v f h e j a = go (ℕ-discrete j i)
-  where
-    go : Dec (j ≡ i) → at (set l i v) j ≡ f j
-    go (yes d) = rw d (getD-set-same l i v 0 h ∙ e)
-    go (no d) = getD-set-other l i j v 0 d ∙ a d

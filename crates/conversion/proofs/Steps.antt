@@ -10,7 +10,8 @@ use lib.Seq.{getD-set-other}
 use Rattle.residue.specs.Residue.{sub, neg, add, sum}
 use Rattle.residue.specs.Laws.{reduce-small, reduce-lt, zero-add, add-zero, add-comm, add-assoc, reduce-neg, add-lt}
 use Rattle.residue.specs.Sum.{sum-last, sum-lt}
-use Rattle.buffers.specs.Positions.{at, table, table-same, after, Same, Below, after-after, set-agrees}
+use Rattle.buffers.specs.Positions.{at, table, after, Same, Below}
+use Rattle.buffers.specs.PositionLaws.{table-same, after-after, set-agrees}
 use Rattle.conversion.specs.Conversion.{pairs, extend, lessTwice, xorBit, xorShare, convert, refresh, convertBit, bitShares}
 use Rattle.conversion.specs.ZeroSharing.{zeroSharing, refresh-adds, refresh-cong}
 use Rattle.conversion.specs.Laws.{lessTwice-one, extend-below, extend-from, xorShare-cong, convert-reduced, convertBit-local}
@@ -139,20 +140,20 @@ module _ (q : ℕ) (w : ℕ → ℕ) where
     pub kept : (t : ℕ) → j ≤ t → at a t ≡ at b t
 
   -- Before share i, with words from p on: what is wanted of the shares from i on is what these words make of them.
-  pub record Left (n : ℕ) (T : ℕ → ℕ) (i p : ℕ) (a : List ℕ) : Type 0 where
+  pub record Remaining (n : ℕ) (T : ℕ → ℕ) (i p : ℕ) (a : List ℕ) : Type 0 where
     pub eight : length a ≡ 8
     pub below : Below q (n - i) (after i (at a))
     pub wanted : Same (n - i) (after i T) (λ t. add q (at a (i + t)) (zeroSharing q (n - i) (after p w) t))
 
-  pub left-all : (n : ℕ) (T : ℕ → ℕ) (p : ℕ) (a : List ℕ) → length a ≡ 8 → Below q n (at a) → Same n T (refresh q n (after p w) (at a)) → Left n T 0 p a
-  left-all n T p a e b h =
+  pub remaining-all : (n : ℕ) (T : ℕ → ℕ) (p : ℕ) (a : List ℕ) → length a ≡ 8 → Below q n (at a) → Same n T (refresh q n (after p w) (at a)) → Remaining n T 0 p a
+  remaining-all n T p a e b h =
       let z : n - 0 ≡ n = omega arith in
       record { eight = e; below = λ t l. rw (N.zero-add t) (b t (omega arith)); wanted = λ t l. all t (omega arith) ∙ rw (z, N.zero-add t) }
     where
       all : (t : ℕ) → t < n → T (0 + t) ≡ add q (at a t) (zeroSharing q n (after p w) t)
       all t l = ap T (N.zero-add t) ∙ h t l ∙ refresh-adds q n (after p w) (at a) (λ s m. reduce-small q (b s m)) t l
 
-  module _ (n : ℕ) (T : ℕ → ℕ) (i o : ℕ) (b : List ℕ) (L : Left n T i o b) (h : i < n) where
+  module _ (n : ℕ) (T : ℕ → ℕ) (i o : ℕ) (b : List ℕ) (L : Remaining n T i o b) (h : i < n) where
     pub own-lt : at b i < q
     own-lt = rw N.add-zero at (L .below 0 (omega arith))
 
@@ -198,9 +199,9 @@ module _ (q : ℕ) (w : ℕ → ℕ) where
             let e : j - (i + 1) ≡ n - (i + 1) = omega arith in
             ap T (sym (N.add-zero i)) ∙ L .wanted 0 (omega arith) ∙ rw (whole, N.add-zero i) (sym (P .gained ∙ rw e))
 
-        pub left-next : Left n T (i + 1) p a
+        pub remaining-next : Remaining n T (i + 1) p a
         unfolding zeroSharing
-        left-next =
+        remaining-next =
             record {
               eight = P .eight;
               below = λ t m. rw (loss t m) (add-lt q (omega (arith, own-lt)) _ _);

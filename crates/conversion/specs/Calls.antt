@@ -10,7 +10,8 @@ use Rattle.residue.specs.Laws.{reduce-small}
 use Rattle.residue.specs.Sum.{sum-cong, sum-list}
 use Rattle.buffers.specs.Overwrite.{overwrite}
 use Rattle.buffers.specs.Laws.{take-front, front-below}
-use Rattle.buffers.specs.Positions.{at, length-table, table-at, table-same, table-list}
+use Rattle.buffers.specs.Positions.{at}
+use Rattle.buffers.specs.PositionLaws.{length-table, table-at, table-same, table-list}
 use Rattle.checks.specs.Checks.{Outcome, Verdict, accepted, settled}
 use Rattle.checks.specs.Laws.{Hold, accepts}
 use Rattle.masking.specs.Sharing.{xorAll}

@@ -8,7 +8,8 @@ use lib.Bits.{bitXor, xor-self, xor-zero-r}
 use Rattle.residue.specs.Residue.{reduce, add, neg, sub, sum}
 use Rattle.residue.specs.Laws.{reduce-small, reduce-zero, reduce-reduce, reduce-add, reduce-neg, reduce-plus, add-reduce-left, neg-reduce, add-comm, add-assoc, add-left-comm, add-zero, zero-add, add-lt, add-neg, neg-zero, neg-add}
 use Rattle.residue.specs.Sum.{sum-cong, reduce-sum, sum-reduce, sum-last, sum-add, sum-neg}
-use Rattle.buffers.specs.Positions.{table, length-table, table-at, table-last, after, Same, Below}
+use Rattle.buffers.specs.Positions.{table, after, Same, Below}
+use Rattle.buffers.specs.PositionLaws.{length-table, table-at, table-last}
 use Rattle.masking.specs.Sharing.{xorAll}
 use Rattle.masking.specs.Xor.{xorAll-append, xorAll-one, xorAll-lt}
 use Rattle.conversion.specs.Conversion.{pairs, extend, lessTwice, xorBit, xorShare, convert, convertBit, bitWords}

@@ -4,7 +4,8 @@ use mathlib.Core.List.{List}
 use Prim.Native.Nat.{ℕ, _+_, _≤_, _<_}
 use native.Mathlib.Omega.{arith}
 use lib.ListN.{length}
-use Rattle.buffers.specs.Positions.{at, after-zero}
+use Rattle.buffers.specs.Positions.{at}
+use Rattle.buffers.specs.PositionLaws.{after-zero}
 use Rattle.checks.specs.Laws.{Hold, accepted-holds}
 use Rattle.secrecy.specs.Secrecy.{Full}
 use Rattle.secrecy.specs.Laws.{weaken}

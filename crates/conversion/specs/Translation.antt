@@ -5,7 +5,8 @@ use Prim.Native.Nat.{ℕ, _+_, _≤_, _<_}
 use native.Mathlib.Omega.{arith}
 use Rattle.residue.specs.Residue.{add}
 use Rattle.residue.specs.Laws.{reduce-add, add-assoc}
-use Rattle.buffers.specs.Positions.{after, join, Same, after-after, join-from}
+use Rattle.buffers.specs.Positions.{after, join, Same}
+use Rattle.buffers.specs.PositionLaws.{after-after, join-from}
 use Rattle.secrecy.specs.Translation.{moved, Translation, Equivariant, Within, before-stays, within-opposite, within-join}
 use Rattle.conversion.specs.Conversion.{pairs, convert, convertBit, bitWords}
 use Rattle.conversion.specs.ZeroSharing.{zeroSharing, zeroSharing-add, solve, solve-ends, zeroSharing-solve}

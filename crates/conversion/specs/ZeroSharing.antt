@@ -12,7 +12,8 @@ use lib.Dec.{eqb}
 use Rattle.residue.specs.Residue.{reduce, add, neg, sub, sum}
 use Rattle.residue.specs.Laws.{reduce-zero, reduce-reduce, reduce-add, reduce-neg, add-comm, add-assoc, add-left-comm, zero-add, add-zero, add-neg, neg-zero, neg-neg, neg-add}
 use Rattle.residue.specs.Sum.{sum-cong, sum-zero, sum-add, sum-neg, sum-one}
-use Rattle.buffers.specs.Positions.{after, join, Same, join-below, join-from}
+use Rattle.buffers.specs.Positions.{after, join, Same}
+use Rattle.buffers.specs.PositionLaws.{join-below, join-from}
 use Rattle.conversion.specs.Conversion.{pairs, transfer, refreshShare, refreshFrom, refresh}
 
 -- v at position i, and 0 elsewhere

@@ -6,7 +6,8 @@ use Prim.Native.Nat.{ℕ, _+_, _-_, _≤_, _<_}
 use native.Mathlib.Omega.{arith}
 use Rattle.residue.specs.Residue.{reduce, add, neg, sub}
 use Rattle.residue.specs.Laws.{add-comm, add-assoc, zero-add, add-zero, reduce-add, add-reduce-right, reduce-zero, add-lt, neg-zero, sub-shift, add-sub, sub-add, add-sub-cancel}
-use Rattle.buffers.specs.Positions.{at, after, join, Same, join-below, join-from}
+use Rattle.buffers.specs.Positions.{at, after, join, Same}
+use Rattle.buffers.specs.PositionLaws.{join-below, join-from}
 use Rattle.secrecy.specs.Secrecy.{Full, Indistinguishable, AlikeIn}
 use Rattle.secrecy.specs.Words.{Reduced, Ends, Undone, full-reduced, onLists, at-onLists, onLists-one-to-one}
 

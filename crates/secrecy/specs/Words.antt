@@ -7,7 +7,8 @@ use native.Mathlib.Omega.{arith}
 use lib.ListN.{length, List·getD-eq-default}
 use Rattle.residue.specs.Residue.{reduce}
 use Rattle.residue.specs.Laws.{reduce-small, reduce-zero}
-use Rattle.buffers.specs.Positions.{at, table, length-table, table-at, table-list, list-table}
+use Rattle.buffers.specs.Positions.{at, table}
+use Rattle.buffers.specs.PositionLaws.{length-table, table-at, table-list, list-table}
 use Rattle.secrecy.specs.Secrecy.{Full, OneToOne}
 use Rattle.secrecy.specs.Laws.{undone-one-to-one}
 

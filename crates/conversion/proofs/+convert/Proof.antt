@@ -1,7 +1,8 @@
 -- The measure is the number of shares. Each step adds one share to the list of the step before.
 use mathlib.Core.Path.{_≡_, sym, ap, _∙_}
 use native.Mathlib.Omega.{arith}
-use Rattle.buffers.specs.Positions.{at, after, after-after}
+use Rattle.buffers.specs.Positions.{at, after}
+use Rattle.buffers.specs.PositionLaws.{after-after}
 use Rattle.conversion.specs.Conversion.{pairs}
 use Rattle.conversion.specs.Laws.{pairs-half}
 use Rattle.conversion.specs.Arrays.{drawn-part}

@@ -3,7 +3,8 @@ use mathlib.Core.Path.{_≡_, sym, ap, _∙_}
 use Prim.Native.Nat.{ℕ, _+_, _-_, _*_, _/_}
 use native.Mathlib.Omega.{arith}
 use Rattle.buffers.specs.Overwrite.{overwrite}
-use Rattle.buffers.specs.Positions.{at, after, after-after}
+use Rattle.buffers.specs.Positions.{at, after}
+use Rattle.buffers.specs.PositionLaws.{after-after}
 use Rattle.conversion.specs.Conversion.{pairs}
 use Rattle.conversion.specs.Laws.{pairs-twice, pairs-half}
 use Rattle.conversion.specs.Arrays.{drawn-part}

@@ -6,9 +6,10 @@ use lib.ListN.{length, length-set}
 use Rattle.residue.specs.Residue.{add, sub}
 use Rattle.residue.specs.Laws.{add-cong, sub-cong, add-lt}
 use Rattle.buffers.specs.Laws.{written, written-none, written-next, written-all}
-use Rattle.buffers.specs.Positions.{at, table, length-table, table-at, after}
+use Rattle.buffers.specs.Positions.{at, table, after}
+use Rattle.buffers.specs.PositionLaws.{length-table, table-at}
 use Rattle.conversion.specs.Conversion.{pairs, refresh}
-use Rattle.conversion.proofs.Steps.{Left, Paired, pairs-step, left-all, paired-none, paired-next, other-lt, paired-lt, share-done, left-next}
+use Rattle.conversion.proofs.Steps.{Remaining, Paired, pairs-step, remaining-all, paired-none, paired-next, other-lt, paired-lt, share-done, remaining-next}
 use borrow.Author.Needs.{needs}
 use Rattle.conversion.proofs.refresh.Statement.{statement}
 use Rattle.conversion.proofs.refresh.Tie as tie
@@ -22,7 +23,7 @@ abbrev μ-loop2 : tie.MeasureT-loop2
 abbrev Inv-loop : tie.InvT-loop
 Inv-loop n q words start out₀ to modulus a₀ p₀ i₀ out a p i =
     let T = refresh q n (after start (at words)) (at a₀) in
-    (i ≤ n) × (start ≤ p) × (p + pairs (n - i) ≡ start + pairs n) × Left q (at words) n T i p a × (out ≡ written out₀ to (table n T) i) × (length out ≡ length out₀)
+    (i ≤ n) × (start ≤ p) × (p + pairs (n - i) ≡ start + pairs n) × Remaining q (at words) n T i p a × (out ≡ written out₀ to (table n T) i) × (length out ≡ length out₀)
 
 abbrev μ-loop : tie.MeasureT-loop
 μ-loop n q words start out₀ to modulus a₀ p₀ i₀ out a p i = n - i
@@ -60,7 +61,7 @@ loop-holds : tie.Need-loop-holds Inv-loop2 μ-loop2 Inv-loop μ-loop
 loop-holds c =
     let s = c .before .before .before in
     let z : s .args .n - 0 ≡ s .args .n = omega arith in
-    (omega arith, omega arith, rw z, left-all _ _ _ _ _ _ (s .pre .2) (s .pre .3) (λ t l. refl), written-none _ _ _, refl)
+    (omega arith, omega arith, rw z, remaining-all _ _ _ _ _ _ (s .pre .2) (s .pre .3) (λ t l. refl), written-none _ _ _, refl)
 
 mul-widen : tie.Need-mul-widen Inv-loop2 μ-loop2 Inv-loop μ-loop
 mul-widen c = search needs
@@ -163,7 +164,7 @@ loop-again c =
       omega arith,
       omega arith,
       omega arith,
-      left-next _ _ _ _ _ _ _ (c .before .before .before .before .before .loop .inv .3) (c .before .before .before .before .loop-test .taken) _ _ _ _ (c .before .before .loop2 .inv .2) (c .before .before .loop2 .inv .0) (c .before .loop2-test .left) (l .inv .1),
+      remaining-next _ _ _ _ _ _ _ (c .before .before .before .before .before .loop .inv .3) (c .before .before .before .before .loop-test .taken) _ _ _ _ (c .before .before .loop2 .inv .2) (c .before .before .loop2 .inv .0) (c .before .loop2-test .left) (l .inv .1),
       written-next _ _ _ _ _ _ (o .inv .4) v (omega arith) (omega arith),
       length-set (o .out) (s .to + o .i) _ ∙ o .inv .5,
     )
