@@ -22,6 +22,9 @@ pub record SharedBit (n q : ℕ) (bits : List ℕ) : Type 0 where
   pub count : length bits ≡ n
   pub below : Below 2 n (at bits)
 
+pub first-lt : {n q : ℕ} {bits : List ℕ} → SharedBit n q bits → at bits 0 < q
+first-lt S = omega (arith, S .below 0 (omega (arith, S .two)), S .modulus)
+
 module _ (n q : ℕ) (bits : List ℕ) where
   pub shared-bit : Hold (sharingChecks n q bits) → SharedBit n q bits
   shared-bit h =

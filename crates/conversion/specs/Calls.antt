@@ -18,7 +18,7 @@ use Rattle.masking.specs.Sharing.{xorAll}
 use Rattle.masking.specs.Xor.{xorAll-lt}
 use Rattle.conversion.specs.Conversion.{convertBit, bitWords, bitShares, bitChecks, converted}
 use Rattle.conversion.specs.Laws.{convertBit-lt, convertBit-local, convertBit-sum}
-use Rattle.conversion.specs.Accepted.{SharedBit, call-sharing}
+use Rattle.conversion.specs.Accepted.{SharedBit, first-lt, call-sharing}
 use Rattle.conversion.specs.Secrecy.{Converts}
 
 pub length-bitShares : (n q : ℕ) (bits words : List ℕ) → length (bitShares n q bits words) ≡ n
@@ -30,15 +30,11 @@ unfolding bitShares
 bitShares-at n q bits words = table-at n (convertBit q n (at bits) (at words))
 
 module _ {n q : ℕ} {bits : List ℕ} (S : SharedBit n q bits) (words : List ℕ) where
-  -- the first share of the bit is below q
-  pub first-lt : at bits 0 < q
-  first-lt = omega (arith, S .below 0 (omega (arith, S .two)), S .modulus)
-
   -- every share is below q
   pub shares-below : EachBelow q (bitShares n q bits words)
   shares-below i l =
       let h : i < n = omega (arith, length-bitShares n q bits words) in
-      rw (bitShares-at n q bits words i h) (convertBit-lt q n (at bits) (at words) first-lt i h)
+      rw (bitShares-at n q bits words i h) (convertBit-lt q n (at bits) (at words) (first-lt S) i h)
 
   -- the shares' residue is the bit
   pub shares-residue : reduce q (total (bitShares n q bits words)) ≡ xorAll bits
@@ -46,14 +42,14 @@ module _ {n q : ℕ} {bits : List ℕ} (S : SharedBit n q bits) (words : List �
       let e = length-bitShares n q bits words in
       let b : xorAll bits < q = omega (arith, xorAll-lt 1 bits (λ i l. S .below i (omega (arith, S .count))), S .modulus) in
       sym (sum-list q (bitShares n q bits words)) ∙ rw e (sum-cong q n _ _ (bitShares-at n q bits words))
-      ∙ convertBit-sum q (omega (arith, S .modulus)) n (at bits) (at words) first-lt (S .below)
+      ∙ convertBit-sum q (omega (arith, S .modulus)) n (at bits) (at words) (first-lt S) (S .below)
       ∙ ap (λ (l : List ℕ). reduce q (xorAll l)) (table-list n bits (S .count)) ∙ reduce-small q b
 
   -- words behind the first n(n − 1) do not matter
   pub shares-words : bitShares n q bits (take (bitWords n) words) ≡ bitShares n q bits words
   unfolding bitShares
   shares-words =
-      table-same n _ _ (convertBit-local q n (at bits) (at bits) (at (take (bitWords n) words)) (at words) first-lt first-lt (λ i l. refl) (λ j l. getD-take (bitWords n) words j 0 l))
+      table-same n _ _ (convertBit-local q n (at bits) (at bits) (at (take (bitWords n) words)) (at words) (first-lt S) (first-lt S) (λ i l. refl) (λ j l. getD-take (bitWords n) words j 0 l))
 
 module _ (n q : ℕ) (bits words out : List ℕ) (h : Hold (bitChecks n q bits words (length out))) where
   -- a call that passes every check is accepted, and its shares stand in front

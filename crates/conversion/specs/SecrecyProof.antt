@@ -12,8 +12,8 @@ use Rattle.secrecy.specs.Laws.{weaken}
 use Rattle.secrecy.specs.Translation.{indistinguishable}
 use Rattle.conversion.specs.Conversion.{convertBit, bitWords, sharingChecks, bitChecks, converted}
 use Rattle.conversion.specs.Arrays.{Drawn}
-use Rattle.conversion.specs.Accepted.{shared-bit, call-holds}
-use Rattle.conversion.specs.Calls.{first-lt, call-share, call-converts}
+use Rattle.conversion.specs.Accepted.{first-lt, shared-bit, call-holds}
+use Rattle.conversion.specs.Calls.{call-share, call-converts}
 use Rattle.conversion.specs.Translation.{bitForm, convertBit-form, refreshWords, bit-equivariant}
 use Rattle.conversion.specs.Secrecy.{BitSecrecy}
 
@@ -27,7 +27,7 @@ module _ (n q : ℕ) (bits : List ℕ) (h : Hold (sharingChecks n q bits)) (word
   full-share : (i : ℕ) → i < n → at (converted n q bits words out .buffers) i ≡ bitForm q n 0 (at bits) (at words) i
   full-share i l =
       call-share n q bits words out full-holds i l ∙ ap (λ (w : ℕ → ℕ). convertBit q n (at bits) w i) (sym (after-zero (at words)))
-      ∙ convertBit-form q n 0 (at bits) (at words) (first-lt (shared-bit n q bits h) words) i l
+      ∙ convertBit-form q n 0 (at bits) (at words) (first-lt (shared-bit n q bits h)) i l
 
 pub bit-secrecy : (n q : ℕ) → BitSecrecy n q
 unfolding BitSecrecy

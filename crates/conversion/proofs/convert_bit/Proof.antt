@@ -11,7 +11,7 @@ use Rattle.buffers.specs.Overwrite.{overwrite}
 use Rattle.buffers.specs.Laws.{front-below}
 use Rattle.buffers.specs.Positions.{at, Same}
 use Rattle.conversion.specs.Conversion.{bitChecks, converted}
-use Rattle.conversion.specs.Accepted.{SharedBit, call-sharing, call-room, call-drawn}
+use Rattle.conversion.specs.Accepted.{SharedBit, first-lt, call-sharing, call-room, call-drawn}
 use Rattle.conversion.specs.SecrecyProof.{bit-secrecy}
 use Rattle.conversion.proofs.Steps.{products, shares-of}
 use borrow.Author.Needs.{needs}
@@ -75,9 +75,8 @@ unfolding converted
 returns-2 c =
     let a = c .before .before .before .before .before .before .before .before .before .before .before .before .before .before .args in
     let s = shared (c .before .before .before .before .before .before .before .before) in
-    let b = s .below 0 (omega (arith, s .two)) in
     let d = copied (c .before .before .before .before .before .before) in
-    let e = shares-of _ (a .q) _ (a .bits .now) (a .words .now) (omega (arith, s .modulus, d 0 (omega (arith, s .two)))) (omega (arith, s .modulus)) d in (
+    let e = shares-of _ (a .q) _ (a .bits .now) (a .words .now) (omega (arith, first-lt s, d 0 (omega (arith, s .two)))) (first-lt s) d in (
       ap (outcome (Done _)) (c .before .before .convert-at .ensures ∙ ap (overwrite (a .out .now) 0) e)
           ∙ settles-accepted _ _ (c .before .before .before .before .before .before .before .before .before .before .check-bit .ensures) _ _ _ (c .before .before .before .before .before .before .before .before .enum-told .given .1),
       bit-secrecy _ _,
