@@ -11,7 +11,7 @@ use Rattle.residue.specs.Residue.{EachBelow}
 use Rattle.buffers.specs.Positions.{at, Below}
 use Rattle.checks.specs.Checks.{isNone}
 use Rattle.checks.specs.Laws.{Hold, hold-front, hold-rest, hold-both, within-true, none-each-below, each-below-none}
-use Rattle.conversion.specs.Conversion.{bitWords, sharingChecks, spaceChecks, bitChecks}
+use Rattle.conversion.specs.Conversion.{bitWords, sharingChecks, bufferChecks, bitChecks}
 use Rattle.conversion.specs.Arrays.{Drawn}
 
 -- n shares of a bit
@@ -39,26 +39,26 @@ module _ (n q : ℕ) (bits : List ℕ) where
 
   module _ (words : List ℕ) (room : ℕ) where
     pub call-sharing : Hold (bitChecks n q bits words room) → SharedBit n q bits
-    call-sharing h = shared-bit (hold-front (sharingChecks n q bits) (spaceChecks n q words room) h)
+    call-sharing h = shared-bit (hold-front (sharingChecks n q bits) (bufferChecks n q words room) h)
 
-    space : Hold (bitChecks n q bits words room) → Hold (spaceChecks n q words room)
-    space h = hold-rest (sharingChecks n q bits) (spaceChecks n q words room) h
+    buffers : Hold (bitChecks n q bits words room) → Hold (bufferChecks n q words room)
+    buffers h = hold-rest (sharingChecks n q bits) (bufferChecks n q words room) h
 
     pub call-room : Hold (bitChecks n q bits words room) → n ≤ room
-    call-room h = leb-true _ _ (space h .1 .1 .0)
+    call-room h = leb-true _ _ (buffers h .1 .1 .0)
 
     pub call-drawn : Hold (bitChecks n q bits words room) → Drawn q 0 (bitWords n) words
     call-drawn h =
-        let e : bitWords n ≤ length words = leb-true _ _ (space h .0) in
+        let e : bitWords n ≤ length words = leb-true _ _ (buffers h .0) in
         let m = length-take-le (bitWords n) words e in
         record {
           room = omega arith;
-          below = λ i l. rw (N.zero-add i, ← getD-take (bitWords n) words i 0 l) (none-each-below q (take (bitWords n) words) 0 (space h .1 .0) i (omega arith));
+          below = λ i l. rw (N.zero-add i, ← getD-take (bitWords n) words i 0 l) (none-each-below q (take (bitWords n) words) 0 (buffers h .1 .0) i (omega arith));
         }
 
     -- with enough words below q, and room, a shared bit is accepted
     pub call-holds : Hold (sharingChecks n q bits) → Drawn q 0 (bitWords n) words → n ≤ room → Hold (bitChecks n q bits words room)
-    call-holds h d r = hold-both (sharingChecks n q bits) (spaceChecks n q words room) h (le-leb _ _ e, (ap isNone (each-below-none q (take (bitWords n) words) 0 below), (le-leb _ _ r, tt)))
+    call-holds h d r = hold-both (sharingChecks n q bits) (bufferChecks n q words room) h (le-leb _ _ e, (ap isNone (each-below-none q (take (bitWords n) words) 0 below), (le-leb _ _ r, tt)))
       where
         e : bitWords n ≤ length words
         e = omega (arith, d .room)

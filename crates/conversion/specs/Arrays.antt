@@ -16,7 +16,7 @@ pub record Drawn (q start count : ℕ) (words : List ℕ) : Type 0 where
   pub room : start + count ≤ length words
   pub below : Below q count (after start (at words))
 
--- q above 2, so that a bit is below it
+-- q is above 2, so that a bit is below it, and small enough for the arithmetic
 pub record Modulus (q : ℕ) : Type 0 where
   pub large : 2 < q
   pub small : q < 2 ^ 31

@@ -76,15 +76,16 @@ bitWords n = n * (n - 1)
 unfoldable pub bitShares : ℕ → ℕ → List ℕ → List ℕ → List ℕ
 bitShares n q bits words = table n (convertBit q n (at bits) (at words))
 
--- the checks of the shared bit, and then those of the words and the output
+-- the checks of the shared bit: 1, 3, 4, 6
 abbrev pub sharingChecks : ℕ → ℕ → List ℕ → List Check
 sharingChecks n q bits = shareCount n ∷ modulusAtLeast 3 q ∷ exactly 4 n bits ∷ narrow 6 1 bits ∷ []
 
-abbrev pub spaceChecks : ℕ → ℕ → List ℕ → ℕ → List Check
-spaceChecks n q words room = atLeast 8 (bitWords n) (length words) ∷ allBelow 9 q (take (bitWords n) words) ∷ atLeast 10 n room ∷ []
+-- and of the word list and the output: 8, 9, 10
+abbrev pub bufferChecks : ℕ → ℕ → List ℕ → ℕ → List Check
+bufferChecks n q words room = atLeast 8 (bitWords n) (length words) ∷ allBelow 9 q (take (bitWords n) words) ∷ atLeast 10 n room ∷ []
 
 abbrev pub bitChecks : ℕ → ℕ → List ℕ → List ℕ → ℕ → List Check
-bitChecks n q bits words room = sharingChecks n q bits ++ spaceChecks n q words room
+bitChecks n q bits words room = sharingChecks n q bits ++ bufferChecks n q words room
 
 unfoldable pub converted : ℕ → ℕ → List ℕ → List ℕ → List ℕ → Outcome ℕ (List ℕ)
 converted n q bits words out = settled (verdict (bitChecks n q bits words (length out)) (bitWords n)) out (overwrite out 0 (bitShares n q bits words))

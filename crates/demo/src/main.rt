@@ -223,7 +223,7 @@ fn two_shares() {
     convert_nine(2, 65535, &[1, 0], &[65534, 65534, 65535]);
 }
 
-// From four shares on it matters which pair takes which word.
+// From four shares on, pairs ordered by m and then by i would give other shares.
 fn three_and_four_shares() {
     let words: [Word; 14] = [3, 14, 1, 15, 9, 2, 6, 5, 11, 8, 16, 0, 65535, 65535];
     let mut four: [Word; 4] = [65535; 4];

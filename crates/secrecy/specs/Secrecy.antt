@@ -20,7 +20,7 @@ pub record OneToOne {T : Type 0} (P : T → Type 0) (f : T → T) : Type 0 where
   pub image : (w : T) → P w → f (origin w) ≡ w
 
 -- Two runs cannot be told apart: some one-to-one map, chosen before the words, takes every full list v to one, w, such that the one run
--- on v and the other on w are alike. Words drawn evenly then make what is alike in both equally frequent in both.
+-- on v and the other on w are alike. So where the words are drawn evenly, whatever is the same in runs that are alike comes equally often.
 pub record Indistinguishable {T : Type 0} (P : T → Type 0) (Alike : T → T → Type 0) : Type 0 where
   pub map : T → T
   pub one-to-one : OneToOne P map

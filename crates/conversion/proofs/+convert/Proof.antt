@@ -150,7 +150,6 @@ convert-xor-share-requires t c κs =
     let h = s .pre .1 .2 .large in
     let b = s .pre .1 .3 0 (omega arith) in (
       omega arith,
-      omega arith,
       rw (c .before .before .from-u16 .ensures) (s .pre .1 .3 (s .args .j - 1) (omega arith)),
       s .pre .1 .2,
       holds-below _ _ _ _ _ (omega arith) (omega arith) (c .convert .ensures),

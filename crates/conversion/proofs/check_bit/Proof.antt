@@ -2,7 +2,7 @@
 use mathlib.Core.Path.{_≡_, sym, ap, _∙_}
 use mathlib.Core.List.{List}
 use Prim.Native.Nat.{_-_, _*_, _≤_}
-use native.Mathlib.Nat.{mul-le-mul, one-mul}
+use native.Mathlib.Nat.{one-mul}
 use native.Mathlib.Omega.{arith}
 use lib.ListN.{take}
 use borrow.Author.Tests.{le-leb, lt-leb, eq-eqb, ne-eqb}
@@ -11,6 +11,7 @@ use Rattle.checks.specs.Search.{firstNotBelow}
 use Rattle.checks.specs.Checks.{Check}
 use Rattle.checks.specs.Laws.{Past, pass, fail, pass-none, fail-some, pass-all, test-holds, test-fails, search-none, search-some, within-true}
 use Rattle.conversion.specs.Conversion.{bitWords, bitChecks}
+use Rattle.conversion.proofs.Steps.{products}
 use Rattle.conversion.proofs.check_bit.Statement.{statement}
 use Rattle.conversion.proofs.check_bit.Tie as tie
 
@@ -47,7 +48,7 @@ bounds : (c : tie.Else1) → (2 ≤ c .before .before .before .before .args .n) 
 bounds c =
     let n = within-true 2 8 (c .before .before .before .before .args .n) (test-holds (c .before .within .ensures) (c .if1 .left)) in
     let m : c .before .before .before .before .args .n - 1 ≤ 8 = omega arith in
-    (n .0, mul-le-mul (n .1) m)
+    (n .0, products _ _ (n .1) m)
 
 within-requires : tie.Need-within-requires
 within-requires c κs = search needs

@@ -20,7 +20,7 @@ abbrev μ-loop : tie.MeasureT-loop
 
 -- the word of a turn
 word : (c : tie.After-widen3 Inv-loop μ-loop) → c .widen3 .result < c .before .before .before .before .before .before .before .before .args .q
-word c = rw (c .widen3 .ensures) (c .before .before .before .before .before .before .before .before .pre .5 .below (c .before .before .before .before .loop .i) (omega arith))
+word c = rw (c .widen3 .ensures) (c .before .before .before .before .before .before .before .before .pre .4 .below (c .before .before .before .before .loop .i) (omega arith))
 
 -- A(i) − r(i)
 difference : (c : tie.After-sub Inv-loop μ-loop) → c .sub .result ≡ sub (c .before .before .before .before .before .before .before .before .before .before .args .q) (at (c .before .before .before .before .before .before .before .before .before .before .args .t1) (c .before .before .before .before .before .before .loop .i)) (at (c .before .before .before .before .before .before .before .before .before .before .args .words .now) (c .before .before .before .before .before .before .before .before .before .before .args .start + c .before .before .before .before .before .before .loop .i))
@@ -73,16 +73,16 @@ sub-requires c κs =
     let s = c .before .before .before .before .before .before .before .before .before in
     let m : c .before .before .before .before .before .before .before .widen .result ≡ s .args .q = c .before .before .before .before .before .before .before .widen .ensures in
     let r : c .before .widen3 .result < s .args .q = word (c .before) in
-    let v : c .widen4 .result < s .args .q = rw (c .widen4 .ensures) (s .pre .4 (c .before .before .before .before .before .loop .i) (omega arith)) in
-    let h = s .pre .3 .small in
+    let v : c .widen4 .result < s .args .q = rw (c .widen4 .ensures) (s .pre .3 (c .before .before .before .before .before .loop .i) (omega arith)) in
+    let h = s .pre .2 .small in
     (omega arith, omega arith, omega arith)
 
 less-twice-requires : tie.Need-less-twice-requires Inv-loop μ-loop
 less-twice-requires c κs =
     let s = c .before .before .before .before .before .before .before .before .before .before in
-    let l : c .sub .result < s .args .q = rw (difference c) (add-lt _ (omega (arith, s .pre .3 .large)) _ _) in
+    let l : c .sub .result < s .args .q = rw (difference c) (add-lt _ (omega (arith, s .pre .2 .large)) _ _) in
     let b : c .before .before .before .before .before .before .before .widen2 .result ≡ s .args .bit = c .before .before .before .before .before .before .before .widen2 .ensures in
-    (omega arith, omega arith, omega (arith, s .pre .3 .small))
+    (omega arith, omega arith, omega (arith, s .pre .2 .small))
 
 mul-c : tie.Need-mul-c Inv-loop μ-loop
 mul-c c = search needs
@@ -95,15 +95,15 @@ add-requires c κs =
     let s = c .before .before .before .before .before .before .before .before .before .before .before in
     let m : c .before .before .before .before .before .before .before .before .before .widen .result ≡ s .args .q = c .before .before .before .before .before .before .before .before .before .widen .ensures in
     let r : c .before .before .before .widen3 .result < s .args .q = word (c .before .before .before) in
-    let l : c .before .before .before .before .before .before .before .loop .sum < s .args .q = turned-lt _ _ _ _ _ _ _ _ (c .before .before .before .before .before .before .before .loop .inv .1) (omega (arith, s .pre .3 .large)) (omega arith) in
-    (omega arith, omega arith, omega (arith, s .pre .3 .small))
+    let l : c .before .before .before .before .before .before .before .loop .sum < s .args .q = turned-lt _ _ _ _ _ _ _ _ (c .before .before .before .before .before .before .before .loop .inv .1) (omega (arith, s .pre .2 .large)) (omega arith) in
+    (omega arith, omega arith, omega (arith, s .pre .2 .small))
 
 less-twice-requires-2 : tie.Need-less-twice-requires-2 Inv-loop μ-loop
 less-twice-requires-2 c κs =
     let s = c .before .before .before .before .before .before .before in
-    let l : c .before .before .before .loop .sum < s .args .q = turned-lt _ _ _ _ _ _ _ _ (c .before .before .before .loop .inv .1) (omega (arith, s .pre .3 .large)) (omega arith) in
+    let l : c .before .before .before .loop .sum < s .args .q = turned-lt _ _ _ _ _ _ _ _ (c .before .before .before .loop .inv .1) (omega (arith, s .pre .2 .large)) (omega arith) in
     let b : c .before .before .before .before .widen2 .result ≡ s .args .bit = c .before .before .before .before .widen2 .ensures in
-    (omega arith, omega arith, omega (arith, s .pre .3 .small))
+    (omega arith, omega arith, omega (arith, s .pre .2 .small))
 
 mul-c-2 : tie.Need-mul-c-2 Inv-loop μ-loop
 mul-c-2 c = search needs
@@ -139,13 +139,13 @@ add-requires-2 c κs =
     let s = c .before .before .before .before .before .before in
     let m : c .before .before .before .before .widen .result ≡ s .args .q = c .before .before .before .before .widen .ensures in
     let b : c .before .before .before .widen2 .result ≡ s .args .bit = c .before .before .before .widen2 .ensures in
-    let v : c .widen5 .result < s .args .q = rw (c .widen5 .ensures, c .before .before .loop .inv .1 .done 0 (omega arith) (omega arith)) (lessTwice-lt _ _ _ (omega (arith, s .pre .3 .large))) in
-    (omega arith, omega (arith, s .pre .3 .large), omega (arith, s .pre .3 .small))
+    let v : c .widen5 .result < s .args .q = rw (c .widen5 .ensures, c .before .before .loop .inv .1 .done 0 (omega arith) (omega arith)) (lessTwice-lt _ _ _ (omega (arith, s .pre .2 .large))) in
+    (omega arith, omega (arith, s .pre .2 .large), omega (arith, s .pre .2 .small))
 
 narrow-requires : tie.Need-narrow-requires Inv-loop μ-loop
 narrow-requires c κs =
     let s = c .before .before .before .before .before .before .before in
-    rw (c .add2 .ensures, c .before .before .before .before .before .widen .ensures) (add-lt _ (omega (arith, s .pre .3 .large)) _ _)
+    rw (c .add2 .ensures, c .before .before .before .before .before .widen .ensures) (add-lt _ (omega (arith, s .pre .2 .large)) _ _)
 
 array-write-c-3 : tie.Need-array-write-c-3 Inv-loop μ-loop
 array-write-c-3 c = search needs
