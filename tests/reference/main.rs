@@ -45,6 +45,56 @@ fn mask(n: u64, k: u64, value: u64, masks: &[u64], out: &mut [u64]) -> Verdict<u
     Ok(n)
 }
 
+/// a − b modulo q, for a and b below q.
+fn minus(a: u64, b: u64, q: u64) -> u64 {
+    (a + q - b) % q
+}
+
+/// Step 2: from the list A for j − 1 shares, the share b(j) and j − 1 random words to the list C for j shares.
+fn one_share_more(q: u64, a: &[u64], b: u64, r: &[u64]) -> Vec<u64> {
+    let mut list: Vec<u64> = a.iter().zip(r).map(|(a, r)| minus(*a, *r, q)).collect();
+    list.push(r.iter().sum::<u64>() % q);
+    for x in &mut list {
+        *x = minus(*x, 2 * *x * b % q, q);
+    }
+    list[0] = (list[0] + b) % q;
+    list
+}
+
+/// Step 3: each pair (i, m) with i < m takes one word, which share i gains and share m loses.
+fn refresh(q: u64, list: &mut [u64], words: &[u64]) {
+    let mut used = 0;
+    for i in 0..list.len() {
+        for m in i + 1..list.len() {
+            list[i] = (list[i] + words[used]) % q;
+            list[m] = minus(list[m], words[used], q);
+            used += 1;
+        }
+    }
+}
+
+/// One shared bit to n numbers. Like every modulus of the page, q is a 16-bit number.
+fn convert_bit(n: u64, q: u64, bits: &[u64], words: &[u64], out: &mut [u64]) -> Verdict<u64> {
+    ask((2..=8).contains(&n), 1, 0)?;
+    ask(q >= 3, 3, 0)?;
+    ask(bits.len() as u64 == n, 4, 0)?;
+    ask_all(bits, 6, |b| b <= 1)?;
+    let count = n * (n - 1);
+    ask(words.len() as u64 >= count, 8, 0)?;
+    ask_all(&words[..count as usize], 9, |r| r < q)?;
+    ask(out.len() as u64 >= n, 10, 0)?;
+    let mut list = vec![bits[0]];
+    let mut rest = words;
+    for b in &bits[1..] {
+        let (next, later) = rest.split_at(list.len());
+        list = one_share_more(q, &list, *b, next);
+        rest = later;
+    }
+    refresh(q, &mut list, rest);
+    out[..list.len()].copy_from_slice(&list);
+    Ok(count)
+}
+
 fn open_string(n: u64, k: u64, shares: &[u64]) -> Verdict<u64> {
     ask((2..=8).contains(&n), 1, 0)?;
     ask((1..=16).contains(&k), 2, 0)?;
@@ -95,46 +145,6 @@ fn parameter_set(number: u64) -> Verdict<(u64, u64)> {
         7 => Ok((3, 8192)),
         _ => Err((22, 0)),
     }
-}
-
-/// Steps 1 and 2: the list for the first j shares of a bit. It takes the next words of `words`.
-fn convert_shares(j: usize, q: u64, bits: &[u64], words: &mut impl Iterator<Item = u64>) -> Vec<u64> {
-    if j == 1 {
-        return vec![bits[0]];
-    }
-    let a = convert_shares(j - 1, q, bits, words);
-    let r: Vec<u64> = words.take(j - 1).collect();
-    let mut b: Vec<u64> = (0..j - 1).map(|i| (a[i] + q - r[i]) % q).collect();
-    b.push(r.iter().sum::<u64>() % q);
-    let mut c: Vec<u64> = b.iter().map(|x| (x + 2 * q - 2 * x * bits[j - 1]) % q).collect();
-    c[0] = (c[0] + bits[j - 1]) % q;
-    c
-}
-
-fn convert_bit(n: u64, q: u64, bits: &[u64], words: &[u64], out: &mut [u64]) -> Verdict<u64> {
-    ask((2..=8).contains(&n), 1, 0)?;
-    ask(q >= 3, 3, 0)?;
-    ask(bits.len() as u64 == n, 4, 0)?;
-    ask_all(bits, 6, |b| b == 0 || b == 1)?;
-    let taken = n * (n - 1);
-    ask(words.len() as u64 >= taken, 8, 0)?;
-    ask_all(&words[..taken as usize], 9, |w| w < q)?;
-    ask(out.len() as u64 >= n, 10, 0)?;
-    let n = n as usize;
-    let mut words = words[..taken as usize].iter().copied();
-    let mut shares = convert_shares(n, q, bits, &mut words);
-    for i in 0..n {
-        for m in i + 1..n {
-            let r = words.next().expect("a word for each pair");
-            shares[i] = (shares[i] + r) % q;
-            shares[m] = (shares[m] + q - r) % q;
-        }
-    }
-    assert_eq!(words.next(), None, "every word is taken");
-    // What the shares are for: their sum is the bit, the XOR of its shares.
-    assert_eq!(shares.iter().sum::<u64>() % q, bits.iter().sum::<u64>() % 2);
-    out[..n].copy_from_slice(&shares);
-    Ok(taken)
 }
 
 /// A line's inputs: a name, and the numbers behind it. The call's own name is the first.
