@@ -1,12 +1,12 @@
 -- Laws of a list of which a part was overwritten.
 use mathlib.Core.Path.{_≡_, refl, sym, ap, _∙_}
-use mathlib.Core.List.{List, [], _∷_, _++_}
+use mathlib.Core.List.{List, [], _∷_, _++_, append-assoc}
 use Prim.Native.Nat.{ℕ, suc, _+_, _≤_, _<_}
 use native.Mathlib.Nat as N
 use native.Mathlib.Numerals.{add-one}
 use native.Mathlib.Omega.{arith}
-use lib.ListN.{length, getD, set, take, drop, length-append, List·getD-append}
-use lib.Seq.{take-length, take-at, drop-at, drop-cons, set-at, append-snoc, paste, paste-zero, paste-suc, length-paste}
+use lib.ListN.{length, getD, set, take, drop, length-append, length-take, List·getD-append}
+use lib.Seq.{length-take-le, take-length, take-at, drop-at, drop-append-add, drop-drop, drop-cons, set-at, append-snoc, paste, paste-zero, paste-suc, length-paste}
 use Rattle.buffers.specs.Overwrite.{overwrite}
 
 -- ---- one element at a time: s is written as far as its first i elements
@@ -32,6 +32,16 @@ module _ (l : List ℕ) (start : ℕ) (s : List ℕ) where
   pub length-overwrite : start + length s ≤ length l → length (overwrite l start s) ≡ length l
   length-overwrite h = ap length (sym (written-all (length s) refl)) ∙ (unfold written in (length-paste l start s (length s) h (omega arith)))
 
+  -- one part behind the other
+  pub overwrite-append : (r : List ℕ) → start ≤ length l → overwrite (overwrite l start s) (start + length s) r ≡ overwrite l start (s ++ r)
+  unfolding overwrite
+  overwrite-append r h =
+      let m : length (take start l ++ s) ≡ start + length s = omega (arith, length-append (take start l) s, length-take-le start l h) in
+      let k : start + length s + length r ≡ start + length (s ++ r) = omega (arith, length-append s r) in
+      let rest : List ℕ = drop (start + length s) l in
+      let d : drop (start + length s + length r) (take start l ++ s ++ rest) ≡ drop (start + length (s ++ r)) l = ap (λ (j : ℕ). drop (j + length r) (take start l ++ s ++ rest)) (sym m) ∙ drop-append-add (take start l ++ s) rest (length r) ∙ drop-drop (length r) (start + length s) l ∙ ap (λ (j : ℕ). drop j l) k in
+      rw (take-at (take start l ++ s) rest (start + length s) m, d, append-assoc (take start l) s r)
+
 -- ---- at the front
 
 pub front : (l s : List ℕ) → overwrite l 0 s ≡ s ++ drop (length s) l
@@ -55,3 +65,7 @@ module _ (l s : List ℕ) where
       let e : length (s ++ (v ∷ [])) ≡ suc (length s) = omega (arith, length-append s (v ∷ [])) in
       rw (front l s, front l (s ++ (v ∷ [])), e, drop-cons l (length s) 0 h)
       (set-at s (getD l (length s) 0) rest v (length s) refl ∙ sym (append-snoc s v rest))
+
+  -- another part of the same length in its stead
+  pub overwrite-again : (r : List ℕ) → length r ≡ length s → overwrite (overwrite l 0 s) 0 r ≡ overwrite l 0 r
+  overwrite-again r e = front (overwrite l 0 s) r ∙ rw (e, drop-front) (rw (← e) (sym (front l r)))

@@ -1,7 +1,7 @@
 -- A list of numbers as a function of the position, and back.
 use mathlib.Core.Path.{_≡_}
 use mathlib.Core.Bool.{cond}
-use mathlib.Core.List.{List, [], _∷_}
+use mathlib.Core.List.{List, [], _∷_, _++_}
 use Prim.Native.Nat.{ℕ, zero, suc, _+_, _-_, _<_}
 use lib.Dec.{ltb}
 use lib.ListN.{getD}
@@ -14,6 +14,11 @@ at l i = getD l i 0
 unfoldable pub table : ℕ → (ℕ → ℕ) → List ℕ
 table zero f = []
 table (suc n) f = f zero ∷ table n (λ i. f (suc i))
+
+-- row after row: the first n values of each of k functions
+unfoldable pub rows : ℕ → ℕ → (ℕ → ℕ → ℕ) → List ℕ
+rows zero n f = []
+rows (suc k) n f = table n (f zero) ++ rows k n (λ t. f (suc t))
 
 -- the values from position n on
 abbrev pub after : ℕ → (ℕ → ℕ) → ℕ → ℕ

@@ -4,7 +4,7 @@ use mathlib.Core.List.{List, [], _∷_}
 use mathlib.Core.Option.{Option, none, some}
 use Prim.Native.Nat.{ℕ, _+_, _*_, _^_}
 use lib.Dec.{leb, ltb, eqb}
-use lib.ListN.{length}
+use lib.ListN.{length, take}
 use Rattle.checks.specs.Search.{firstNotBelow}
 
 -- A check: whether it holds, and the number and the position (the page's 'place') of the refusal where it does not.
@@ -86,3 +86,7 @@ below code position limit x = record { holds = ltb x limit; code = code; positio
 -- 1, 2 and 3 of the sampler: n, k, and q at least 2k + 1
 abbrev pub parameterChecks : ℕ → ℕ → ℕ → List Check
 parameterChecks n k q = shareCount n ∷ stringLength k ∷ modulusAtLeast (2 * k + 1) q ∷ []
+
+-- 8 and 9: there are at least `count` words, and the first `count` of them are below q
+abbrev pub wordChecks : ℕ → ℕ → List ℕ → List Check
+wordChecks count q words = atLeast 8 count (length words) ∷ allBelow 9 q (take count words) ∷ []

@@ -1,7 +1,7 @@
 -- Laws of searches, and of going through a list of checks.
 use mathlib.Core.Path.{_≡_, refl, sym, ap, _∙_}
 use mathlib.Core.Bool.{Bool, true, false, cond, not, _&&_, false≢true}
-use mathlib.Core.List.{List, [], _∷_, _++_}
+use mathlib.Core.List.{List, [], _∷_, _++_, append-nil}
 use mathlib.Core.Option.{Option, none, some}
 use Prim.Native.Nat.{ℕ, zero, suc, suc-le-suc, _+_, _≤_, _<_}
 use native.Mathlib.Nat.{le-of-suc-le-suc}
@@ -146,20 +146,25 @@ accepted-holds {A} a b (c ∷ cs) e = go (accepted-holds a b cs) (c .holds) refl
         let d : _≡_ {A = Verdict A} (refused (c .code) (c .position)) (accepted b) = sym (fail a c cs h) ∙ e in
         absurd (let z : _≡_ {A = ℕ} 0 1 = cc in omega arith)
 
--- a refusal does not depend on what the call would answer
-pub refuses : {A B : Type 0} (a : A) (b : B) (code position : ℕ) (cs : List Check) → verdict cs a ≡ refused code position → verdict cs b ≡ refused code position
-refuses {A} a b code position [] e =
+-- where the first of two parts holds, the second decides
+pub passes-part : {A : Type 0} (a : A) (cs ds : List Check) → Hold cs → verdict (cs ++ ds) a ≡ verdict ds a
+passes-part a [] ds h = refl
+passes-part a (c ∷ cs) ds h = pass a c (cs ++ ds) (h .0) ∙ passes-part a cs ds (h .1)
+
+-- a refusal does not depend on what the call would answer, nor on the checks behind
+pub refuses : {A B : Type 0} (a : A) (b : B) (code position : ℕ) (cs ds : List Check) → verdict cs a ≡ refused code position → verdict (cs ++ ds) b ≡ refused code position
+refuses {A} a b code position [] ds e =
     let d : _≡_ {A = Verdict A} (accepted a) (refused code position) = sym (pass-all a) ∙ e in
     absurd (let z : _≡_ {A = ℕ} 0 1 = cc in omega arith)
-refuses {A} {B} a b code position (c ∷ cs) e = go (refuses a b code position cs) (c .holds) refl
+refuses {A} {B} a b code position (c ∷ cs) ds e = go (refuses a b code position cs ds) (c .holds) refl
   where
-    go : (verdict cs a ≡ refused code position → verdict cs b ≡ refused code position) → (t : Bool) → c .holds ≡ t → verdict (c ∷ cs) b ≡ refused code position
-    go ih true h = pass b c cs h ∙ ih (sym (pass a c cs h) ∙ e)
+    go : (verdict cs a ≡ refused code position → verdict (cs ++ ds) b ≡ refused code position) → (t : Bool) → c .holds ≡ t → verdict (c ∷ (cs ++ ds)) b ≡ refused code position
+    go ih true h = pass b c (cs ++ ds) h ∙ ih (sym (pass a c cs h) ∙ e)
     go ih false h =
         let d : _≡_ {A = Verdict A} (refused (c .code) (c .position)) (refused code position) = sym (fail a c cs h) ∙ e in
         let i : c .code ≡ code = cc in
         let j : c .position ≡ position = cc in
-        fail b c cs h ∙ rw (i, j)
+        fail b c (cs ++ ds) h ∙ rw (i, j)
 
 pub settled-answer : {A B : Type 0} (v : Verdict A) (before after : B) → settled v before after .answer ≡ v
 settled-answer (accepted a) before after = refl
@@ -175,7 +180,14 @@ module _ (cs : List Check) (r : Checked) (e : checkedReading r ≡ checked cs) w
   checks-passed a p = accepts a cs (checks-hold p)
 
   pub checks-failed : {A : Type 0} (a : A) (f : Refusal) → r ≡ Failed f → verdict cs a ≡ refusalReading f
-  checks-failed a f p = refuses tt a (f .code) (f .position) cs (sym e ∙ ap checkedReading p)
+  checks-failed a f p = ap (λ (ds : List Check). verdict ds a) (sym (append-nil cs)) ∙ refuses tt a (f .code) (f .position) cs [] (sym e ∙ ap checkedReading p)
+
+  -- they are the first part of a longer list
+  pub part-passed : (ds : List Check) → r ≡ Passed → checked (cs ++ ds) ≡ checked ds
+  part-passed ds p = passes-part tt cs ds (checks-hold p)
+
+  pub part-failed : (ds : List Check) (f : Refusal) → r ≡ Failed f → checkedReading (Failed f) ≡ checked (cs ++ ds)
+  part-failed ds f p = sym (refuses tt tt (f .code) (f .position) cs ds (sym e ∙ ap checkedReading p))
 
   pub settles-accepted : {A B : Type 0} (a : A) (before after : B) → r ≡ Passed → record { answer = accepted a; buffers = after } ≡ settled (verdict cs a) before after
   settles-accepted {A} a before after p = ap (λ (v : Verdict A). settled v before after) (sym (checks-passed a p))

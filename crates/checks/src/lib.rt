@@ -5,7 +5,7 @@ ghost use Prim.Native.Nat.{_*_, _^_, _≤_};
 ghost use lib.Dec.{ltb};
 ghost use lib.ListN.{length, take};
 ghost use Rattle.checks.specs.Search.{firstNotBelow};
-ghost use Rattle.checks.specs.Checks.{refused, checked, within, parameterChecks};
+ghost use Rattle.checks.specs.Checks.{refused, checked, within, parameterChecks, wordChecks};
 ghost use Rattle.checks.specs.Answers.{foundReading, checkedReading};
 
 // Document 01's number for a refused call, and the position (its 'place') of what is unfit.
@@ -167,4 +167,18 @@ pub fn first_not_below(words: &[Word], bits: usize, per: usize, q: Word) -> Foun
         }
     }
     found
+}
+
+// Checks 8 and 9 of a call that takes `per` words for each of its bits.
+pub fn check_words(words: &[Word], bits: usize, per: usize, q: Word) -> Checked
+    requires { ⌜ bits * per ≤ 2 ^ 32 ⌝ }
+    ensures { λ r. ⌜ checkedReading r ≡ checked (wordChecks (bits * per) q (now (words .entry))) ⌝ }
+{
+    if words.len() < bits * per {
+        return refuse(WORD_COUNT, 0);
+    }
+    if let Found::At(i) = first_not_below(words, bits, per, q) {
+        return refuse(WORD_RANGE, i);
+    }
+    Checked::Passed
 }

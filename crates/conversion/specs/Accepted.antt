@@ -1,6 +1,6 @@
 -- What it means, in plain facts, that a call passes its checks.
 use mathlib.Core.Path.{_≡_, ap}
-use mathlib.Core.List.{List}
+use mathlib.Core.List.{List, [], _∷_}
 use Prim.Native.Nat.{ℕ, _≤_, _<_}
 use native.Mathlib.Nat as N
 use native.Mathlib.Omega.{arith}
@@ -9,10 +9,10 @@ use lib.ListN.{length, take}
 use lib.Seq.{getD-take, length-take-le}
 use Rattle.residue.specs.Residue.{EachBelow}
 use Rattle.buffers.specs.Positions.{at, Below}
-use Rattle.checks.specs.Checks.{isNone}
-use Rattle.checks.specs.Laws.{Hold, hold-front, hold-rest, hold-both, within-true, none-each-below, each-below-none}
+use Rattle.checks.specs.Checks.{atLeast, wordChecks}
+use Rattle.checks.specs.Laws.{Hold, hold-front, hold-rest, hold-both, within-true, none-each-below}
 use Rattle.conversion.specs.Conversion.{bitWords, sharingChecks, bufferChecks, bitChecks}
-use Rattle.conversion.specs.Arrays.{Drawn}
+use Rattle.conversion.specs.Arrays.{Drawn, words-drawn, drawn-words}
 
 -- n shares of a bit
 pub record SharedBit (n q : ℕ) (bits : List ℕ) : Type 0 where
@@ -48,22 +48,10 @@ module _ (n q : ℕ) (bits : List ℕ) where
     call-room h = leb-true _ _ (buffers h .1 .1 .0)
 
     pub call-drawn : Hold (bitChecks n q bits words room) → Drawn q 0 (bitWords n) words
-    call-drawn h =
-        let e : bitWords n ≤ length words = leb-true _ _ (buffers h .0) in
-        let m = length-take-le (bitWords n) words e in
-        record {
-          room = omega arith;
-          below = λ i l. rw (N.zero-add i, ← getD-take (bitWords n) words i 0 l) (none-each-below q (take (bitWords n) words) 0 (buffers h .1 .0) i (omega arith));
-        }
+    call-drawn h = words-drawn q (bitWords n) words (hold-front (wordChecks (bitWords n) q words) (atLeast 10 n room ∷ []) (buffers h))
 
     -- with enough words below q, and room, a shared bit is accepted
     pub call-holds : Hold (sharingChecks n q bits) → Drawn q 0 (bitWords n) words → n ≤ room → Hold (bitChecks n q bits words room)
-    call-holds h d r = hold-both (sharingChecks n q bits) (bufferChecks n q words room) h (le-leb _ _ e, (ap isNone (each-below-none q (take (bitWords n) words) 0 below), (le-leb _ _ r, tt)))
-      where
-        e : bitWords n ≤ length words
-        e = omega (arith, d .room)
-
-        below : EachBelow q (take (bitWords n) words)
-        below i l =
-            let m : i < bitWords n = omega (arith, length-take-le (bitWords n) words e) in
-            rw (getD-take (bitWords n) words i 0 m) (rw N.zero-add at (d .below i m))
+    call-holds h d r =
+        hold-both (sharingChecks n q bits) (bufferChecks n q words room) h
+        (hold-both (wordChecks (bitWords n) q words) (atLeast 10 n room ∷ []) (drawn-words q (bitWords n) words d) (le-leb _ _ r, tt))

@@ -4,11 +4,11 @@ use mathlib.Core.Bool.{cond}
 use mathlib.Core.List.{List, [], _∷_, _++_}
 use Prim.Native.Nat.{ℕ, zero, suc, _+_, _-_, _*_}
 use lib.Dec.{ltb, eqb}
-use lib.ListN.{length, take}
+use lib.ListN.{length}
 use Rattle.residue.specs.Residue.{add, sub, sum}
 use Rattle.buffers.specs.Overwrite.{overwrite}
 use Rattle.buffers.specs.Positions.{at, table, after}
-use Rattle.checks.specs.Checks.{Check, Outcome, verdict, settled, shareCount, modulusAtLeast, exactly, narrow, atLeast, allBelow}
+use Rattle.checks.specs.Checks.{Check, Outcome, verdict, settled, shareCount, modulusAtLeast, exactly, narrow, atLeast, wordChecks}
 
 -- how many pairs n shares have. Steps 1 and 2 take that many words, and step 3 again.
 unfoldable pub pairs : ℕ → ℕ
@@ -82,7 +82,7 @@ sharingChecks n q bits = shareCount n ∷ modulusAtLeast 3 q ∷ exactly 4 n bit
 
 -- and of the word list and the output: 8, 9, 10
 abbrev pub bufferChecks : ℕ → ℕ → List ℕ → ℕ → List Check
-bufferChecks n q words room = atLeast 8 (bitWords n) (length words) ∷ allBelow 9 q (take (bitWords n) words) ∷ atLeast 10 n room ∷ []
+bufferChecks n q words room = wordChecks (bitWords n) q words ++ (atLeast 10 n room ∷ [])
 
 abbrev pub bitChecks : ℕ → ℕ → List ℕ → List ℕ → ℕ → List Check
 bitChecks n q bits words room = sharingChecks n q bits ++ bufferChecks n q words room

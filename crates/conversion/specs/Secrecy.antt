@@ -1,14 +1,12 @@
 -- What n − 1 shares of a converted bit tell: nothing (document 01, 'The rule about n − 1 shares', for the one-bit call).
 use mathlib.Core.Path.{_≡_}
-use mathlib.Core.Logic.{_≢_}
 use mathlib.Core.List.{List}
 use Prim.Native.Nat.{ℕ, _≤_, _<_}
 use lib.ListN.{length, take}
 use Rattle.residue.specs.Residue.{reduce, total}
-use Rattle.buffers.specs.Positions.{at}
 use Rattle.checks.specs.Checks.{accepted, checked}
 use Rattle.masking.specs.Sharing.{xorAll}
-use Rattle.secrecy.specs.Secrecy.{Full, Indistinguishable}
+use Rattle.secrecy.specs.Secrecy.{Full, Indistinguishable, AgreeBut}
 use Rattle.conversion.specs.Conversion.{bitWords, bitShares, sharingChecks, converted}
 
 -- A call that is accepted with its count of words; its n shares are those of the written steps, and their residue is the call's own bit.
@@ -21,7 +19,7 @@ pub record Converts (n q : ℕ) (bits words out : List ℕ) : Type 0 where
 pub record AlikeBut (ℓ n q : ℕ) (bits words out bits′ words′ out′ : List ℕ) : Type 0 where
   pub one : Converts n q bits words out
   pub other : Converts n q bits′ words′ out′
-  pub agree : (i : ℕ) → i < n → i ≢ ℓ → at (converted n q bits words out .buffers) i ≡ at (converted n q bits′ words′ out′ .buffers) i
+  pub agree : AgreeBut ℓ n (converted n q bits words out .buffers) (converted n q bits′ words′ out′ .buffers)
 
 -- For every share ℓ left out and any two shared bits that pass their checks: a one-to-one map of the full lists of words makes the two
 -- calls alike in all other shares, whatever stood in their outputs before.

@@ -123,12 +123,8 @@ fn check_bit(n: usize, q: Word, bits: &[u16], words: &[Word], room: usize) -> Ch
     if let Found::At(i) = checks::first_wide(bits, 1) {
         return checks::refuse(checks::X_WIDTH, i);
     }
-    let per = n * (n - 1);
-    if words.len() < per {
-        return checks::refuse(checks::WORD_COUNT, 0);
-    }
-    if let Found::At(i) = checks::first_not_below(words, 1, per, q) {
-        return checks::refuse(checks::WORD_RANGE, i);
+    if let Checked::Failed(r) = checks::check_words(words, 1, n * (n - 1), q) {
+        return Checked::Failed(r);
     }
     if room < n {
         return checks::refuse(checks::OUTPUT_ROOM, 0);

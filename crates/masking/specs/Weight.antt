@@ -4,6 +4,9 @@ use Prim.Native.Nat.{ℕ, zero, suc, _+_, _/_, _%_, _^_, _<_, _≤_}
 use native.Mathlib.Omega.{arith}
 use lib.Count.{ones, ones-step, ones-le}
 use lib.Pow.{pow-mono}
+use Rattle.residue.specs.Residue.{reduce, add, sum}
+use Rattle.residue.specs.Laws.{reduce-zero, reduce-plus, add-reduce-left}
+use Rattle.residue.specs.Sum.{sum-last}
 use Rattle.checks.specs.Width.{bit, bit-lowest, bit-shift}
 use Rattle.masking.specs.Signed.{bitSum, weight}
 
@@ -32,3 +35,9 @@ module _ (k x : ℕ) (l : k ≤ 16) (h : x < 2 ^ k) where
 
   pub weight-le : weight x ≤ k
   weight-le = rw (← ones-weight) (ones-le k x h)
+
+-- the bits, added modulo q
+pub sum-bits : (q k x : ℕ) → sum q k (bit x) ≡ reduce q (bitSum k x)
+unfolding bitSum
+sum-bits q zero x = unfold sum in sym (reduce-zero q)
+sum-bits q (suc k) x = sum-last q k (bit x) ∙ ap (λ (s : ℕ). add q s (bit x k)) (sum-bits q k x) ∙ add-reduce-left q (bitSum k x) (bit x k) ∙ sym (reduce-plus q (bitSum k x) (bit x k))

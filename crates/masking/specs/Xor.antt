@@ -1,14 +1,17 @@
 -- Laws of the XOR of numbers and of lists.
 use mathlib.Core.Path.{_≡_, refl, sym, ap, _∙_}
 use mathlib.Core.List.{List, [], _∷_, _++_}
-use Prim.Native.Nat.{ℕ, suc, suc-le-suc, _+_, _-_, _/_, _^_, _<_}
+use Prim.Native.Nat.{ℕ, suc, suc-le-suc, _+_, _-_, _/_, _%_, _^_, _<_}
+use native.Mathlib.Nat.{zero-div}
 use native.Mathlib.Omega.{arith}
 use lib.Arith.{bin-ind}
-use lib.Bits.{bitXor, xor-add-and, xor-shr, xor-comm, xor-self, xor-zero-r, xor-lt}
-use lib.ListN.{take, drop, take-append-drop}
+use lib.Bits.{bitXor, xor-add-and, xor-shr, xor-mod, xor-comm, xor-self, xor-zero-r, xor-lt}
+use lib.ListN.{length, take, drop, take-append-drop}
 use lib.Pow.{pow-pos}
 use Rattle.residue.specs.Residue.{reduce, add, EachBelow}
 use Rattle.residue.specs.Laws.{add-assoc, add-reduce-left, add-reduce-right}
+use Rattle.buffers.specs.Positions.{at, table}
+use Rattle.checks.specs.Width.{bit}
 use Rattle.masking.specs.Sharing.{xorAll}
 
 pub xor-half : (a b : ℕ) → bitXor a b / 2 ≡ bitXor (a / 2) (b / 2)
@@ -33,6 +36,10 @@ xor-assoc = bin-ind (λ (a : ℕ). (b c : ℕ) → bitXor (bitXor a b) c ≡ bit
     step : (a : ℕ) → ((b c : ℕ) → bitXor (bitXor (a / 2) b) c ≡ bitXor (a / 2) (bitXor b c)) → (b c : ℕ) → bitXor (bitXor a b) c ≡ bitXor a (bitXor b c)
     step a ih b c = join (bitXor (bitXor a b) c) (bitXor a (bitXor b c)) (simp xor-half (ih (b / 2) (c / 2))) (lowest a b c)
 
+-- bit t of the XOR is the XOR of the bits t
+pub bit-xor : (a b t : ℕ) → bit (bitXor a b) t ≡ bitXor (bit a t) (bit b t)
+bit-xor a b t = ap (λ (x : ℕ). x % 2) (xor-shr a b t) ∙ xor-mod (a / 2 ^ t) (b / 2 ^ t) 1
+
 -- XORed twice, a number comes back
 pub xor-twice : (a b : ℕ) → bitXor b (bitXor a b) ≡ a
 xor-twice a b = xor-comm b (bitXor a b) ∙ xor-assoc a b b ∙ ap (bitXor a) (xor-self b) ∙ xor-zero-r a
@@ -51,6 +58,11 @@ xorAll-one x = xor-zero-r x
 -- a list is opened by its parts
 pub xorAll-split : (h : ℕ) (l : List ℕ) → bitXor (xorAll (take h l)) (xorAll (drop h l)) ≡ xorAll l
 xorAll-split h l = sym (xorAll-append (take h l) (drop h l)) ∙ ap xorAll (take-append-drop h l)
+
+pub bit-xorAll : (t : ℕ) (l : List ℕ) → bit (xorAll l) t ≡ xorAll (table (length l) (λ i. bit (at l i) t))
+unfolding xorAll table
+bit-xorAll t [] = ap (λ (x : ℕ). x % 2) (zero-div (2 ^ t))
+bit-xorAll t (x ∷ l) = bit-xor x (xorAll l) t ∙ ap (bitXor (bit x t)) (bit-xorAll t l)
 
 -- the XOR of numbers of k bits has k bits
 pub xorAll-lt : (k : ℕ) (l : List ℕ) → EachBelow (2 ^ k) l → xorAll l < 2 ^ k

@@ -1,9 +1,11 @@
 -- What it means that outputs tell nothing of a secret (document 01: 'The rule about n − 1 shares').
 use mathlib.Core.Path.{_≡_}
 use mathlib.Core.List.{List}
-use Prim.Native.Nat.{ℕ}
+use mathlib.Core.Logic.{_≢_}
+use Prim.Native.Nat.{ℕ, _<_}
 use lib.ListN.{length}
 use Rattle.residue.specs.Residue.{EachBelow}
+use Rattle.buffers.specs.Positions.{at}
 
 -- A full list: exactly W words, each below q.
 pub record Full (q W : ℕ) (ws : List ℕ) : Type 0 where
@@ -29,3 +31,7 @@ pub record Indistinguishable {T : Type 0} (P : T → Type 0) (Alike : T → T �
 -- Alike in all outputs that are seen; what is left out may differ.
 abbrev pub AlikeIn : {T I A : Type 0} → (I → Type 0) → (T → I → A) → (T → I → A) → T → T → Type 0
 AlikeIn {I = I} Seen one other v w = (i : I) → Seen i → one v i ≡ other w i
+
+-- Two outputs that agree in each of the first n shares but ℓ.
+abbrev pub AgreeBut : ℕ → ℕ → List ℕ → List ℕ → Type 0
+AgreeBut ℓ n out out′ = (i : ℕ) → i < n → i ≢ ℓ → at out i ≡ at out′ i

@@ -8,8 +8,9 @@ use lib.ListN.{take}
 use borrow.Author.Tests.{le-leb, lt-leb, eq-eqb, ne-eqb}
 use borrow.Author.Needs.{needs}
 use Rattle.checks.specs.Search.{firstNotBelow}
-use Rattle.checks.specs.Checks.{Check}
-use Rattle.checks.specs.Laws.{Past, pass, fail, pass-none, fail-some, pass-all, test-holds, test-fails, search-none, search-some, within-true}
+use Rattle.checks.specs.Checks.{Check, checked, wordChecks}
+use Rattle.checks.specs.Answers.{checkedReading}
+use Rattle.checks.specs.Laws.{Past, pass, fail, pass-none, fail-some, pass-all, test-holds, test-fails, search-none, search-some, part-passed, part-failed, within-true}
 use Rattle.conversion.specs.Conversion.{bitWords, bitChecks}
 use Rattle.conversion.proofs.Steps.{products}
 use Rattle.conversion.proofs.check_bit.Statement.{statement}
@@ -30,18 +31,17 @@ past3 c = past2 (c .before) ∙ pass tt _ _ (eq-eqb _ _ (c .if3 .left))
 past4 : (c : tie.After-enum-told) → Past (checks (c .before .before .before .before .before .before .before .before .before)) 4
 past4 c = past3 (c .before .before .before) ∙ pass-none tt _ _ _ _ (search-none (c .before .before .first-wide .ensures) (c .enum-told .given .1))
 
-past5 : (c : tie.Else4) → Past (checks (c .before .before .before .before .before .before .before .before .before .before)) 5
-past5 c = past4 (c .before) ∙ pass tt _ _ (le-leb _ _ (c .if4 .left))
-
 -- one bit of n (n − 1) words
-one : (s : tie.Start) → firstNotBelow (s .args .q) (take (1 * bitWords (s .args .n)) (s .args .words .now)) ≡ firstNotBelow (s .args .q) (take (bitWords (s .args .n)) (s .args .words .now))
-one s = ap (λ m. firstNotBelow (s .args .q) (take m (s .args .words .now))) (one-mul (bitWords (s .args .n)))
+one : (s : tie.Start) → checked (wordChecks (1 * bitWords (s .args .n)) (s .args .q) (s .args .words .now)) ≡ checked (wordChecks (bitWords (s .args .n)) (s .args .q) (s .args .words .now))
+one s = ap (λ m. checked (wordChecks m (s .args .q) (s .args .words .now))) (one-mul (bitWords (s .args .n)))
 
-past6 : (c : tie.After-enum-told2) → Past (checks (c .before .before .before .before .before .before .before .before .before .before .before .before .before)) 6
-past6 c = past5 (c .before .before .before) ∙ pass-none tt _ _ _ _ (sym (one (c .before .before .before .before .before .before .before .before .before .before .before .before .before)) ∙ search-none (c .before .before .first-not-below .ensures) (c .enum-told2 .given .1))
+past6 : (c : tie.After-enum-told2) → Past (checks (c .before .before .before .before .before .before .before .before .before .before .before .before)) 6
+past6 c =
+    past4 (c .before .before .before)
+    ∙ part-passed _ _ (c .before .before .check-words .ensures ∙ one (c .before .before .before .before .before .before .before .before .before .before .before .before)) _ (c .enum-told2 .given .1)
 
-past7 : (c : tie.Else5) → Past (checks (c .before .before .before .before .before .before .before .before .before .before .before .before .before .before)) 7
-past7 c = past6 (c .before) ∙ pass tt _ _ (le-leb _ _ (c .if5 .left))
+past7 : (c : tie.Else4) → Past (checks (c .before .before .before .before .before .before .before .before .before .before .before .before .before)) 7
+past7 c = past6 (c .before) ∙ pass tt _ _ (le-leb _ _ (c .if4 .left))
 
 -- check 1 held
 bounds : (c : tie.Else1) → (2 ≤ c .before .before .before .before .args .n) × (bitWords (c .before .before .before .before .args .n) ≤ 64)
@@ -86,44 +86,34 @@ returns-4 c = c .refuse4 .ensures ∙ sym (past3 (c .before .before .before .bef
 enum-told : tie.Need-enum-told
 enum-told c = search needs
 
-sub-per : tie.Need-sub-per
-sub-per c = omega (arith, bounds (c .before .before .before .before .before))
+sub-check-words : tie.Need-sub-check-words
+sub-check-words c = omega (arith, bounds (c .before .before .before .before .before))
 
-mul-per : tie.Need-mul-per
-mul-per c = omega (arith, bounds (c .before .before .before .before .before))
+mul-check-words : tie.Need-mul-check-words
+mul-check-words c = omega (arith, bounds (c .before .before .before .before .before))
 
-refuse-requires-5 : tie.Need-refuse-requires-5
-refuse-requires-5 c κs = search needs
+check-words-requires : tie.Need-check-words-requires
+check-words-requires c κs = omega (arith, bounds (c .before .before .before .before .before))
+
+enum-known-r : tie.Need-enum-known-r
+enum-known-r c = search needs
 
 returns-5 : tie.Need-returns-5
-returns-5 c = c .refuse5 .ensures ∙ sym (past4 (c .before .before) ∙ fail tt _ _ (lt-leb _ _ (c .before .if4 .taken)))
-
-first-not-below-requires : tie.Need-first-not-below-requires
-first-not-below-requires c κs = search needs
-
-enum-known-i-2 : tie.Need-enum-known-i-2
-enum-known-i-2 c = search needs
-
-refuse-requires-6 : tie.Need-refuse-requires-6
-refuse-requires-6 c κs = search needs
-
-returns-6 : tie.Need-returns-6
-returns-6 c =
-    c .refuse6 .ensures
-    ∙ sym (past5 (c .before .before .before .before .before)
-    ∙ fail-some tt _ _ _ _ _ (sym (one (c .before .before .before .before .before .before .before .before .before .before .before .before .before .before .before)) ∙ search-some (c .before .before .before .before .first-not-below .ensures) (c .before .before .i2 .given .1)))
+returns-5 c =
+    part-failed _ _ (c .before .before .before .check-words .ensures ∙ one (c .before .before .before .before .before .before .before .before .before .before .before .before .before)) _ _ (c .before .r .given .1)
+    ∙ sym (past4 (c .before .before .before .before))
 
 enum-told-2 : tie.Need-enum-told-2
 enum-told-2 c = search needs
 
-refuse-requires-7 : tie.Need-refuse-requires-7
-refuse-requires-7 c κs = search needs
+refuse-requires-5 : tie.Need-refuse-requires-5
+refuse-requires-5 c κs = search needs
+
+returns-6 : tie.Need-returns-6
+returns-6 c = c .refuse5 .ensures ∙ sym (past6 (c .before .before) ∙ fail tt _ _ (lt-leb _ _ (c .before .if4 .taken)))
 
 returns-7 : tie.Need-returns-7
-returns-7 c = c .refuse7 .ensures ∙ sym (past6 (c .before .before) ∙ fail tt _ _ (lt-leb _ _ (c .before .if5 .taken)))
-
-returns-8 : tie.Need-returns-8
-returns-8 c = sym (past7 c ∙ pass-all tt)
+returns-7 c = sym (past7 c ∙ pass-all tt)
 
 pub check-bit-spec : {M : Type 1} → statement M
 check-bit-spec =
@@ -141,15 +131,12 @@ check-bit-spec =
     refuse-requires-4
     returns-4
     enum-told
-    sub-per
-    mul-per
-    refuse-requires-5
+    sub-check-words
+    mul-check-words
+    check-words-requires
+    enum-known-r
     returns-5
-    first-not-below-requires
-    enum-known-i-2
-    refuse-requires-6
-    returns-6
     enum-told-2
-    refuse-requires-7
-    returns-7
-    returns-8)
+    refuse-requires-5
+    returns-6
+    returns-7)
