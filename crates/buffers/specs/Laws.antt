@@ -5,7 +5,7 @@ use Prim.Native.Nat.{ℕ, suc, _+_, _≤_, _<_}
 use native.Mathlib.Nat as N
 use native.Mathlib.Numerals.{add-one}
 use native.Mathlib.Omega.{arith}
-use lib.ListN.{length, getD, set, take, drop, length-append, length-take, List·getD-append}
+use lib.ListN.{length, getD, set, take, drop, length-append, List·getD-append}
 use lib.Seq.{length-take-le, take-length, take-at, drop-at, drop-append-add, drop-drop, drop-cons, set-at, append-snoc, paste, paste-zero, paste-suc, length-paste}
 use Rattle.buffers.specs.Overwrite.{overwrite}
 
@@ -13,6 +13,10 @@ use Rattle.buffers.specs.Overwrite.{overwrite}
 
 unfoldable pub written : List ℕ → ℕ → List ℕ → ℕ → List ℕ
 written l start s i = paste l start s i
+
+pub overwrite-none : (l : List ℕ) (start : ℕ) → overwrite l start [] ≡ l
+unfolding overwrite
+overwrite-none l start = sym (paste-zero l start [])
 
 module _ (l : List ℕ) (start : ℕ) (s : List ℕ) where
   pub written-none : l ≡ written l start s 0

@@ -2,3 +2,4 @@ pub mod Overwrite
 pub mod Laws
 pub mod Positions
 pub mod PositionLaws
+pub mod Rows

@@ -1,16 +1,16 @@
 -- Laws of lists as functions of the position.
 use mathlib.Core.Path.{_≡_, refl, sym, ap, _∙_, fun-ext}
-use mathlib.Core.List.{List, [], _∷_, _++_, append-assoc, append-nil}
+use mathlib.Core.List.{List, [], _∷_, _++_}
 use mathlib.Core.Logic.{_≢_}
-use Prim.Native.Nat.{ℕ, zero, suc, suc-le-suc, _+_, _-_, _*_, _≤_, _<_}
+use Prim.Native.Nat.{ℕ, zero, suc, suc-le-suc, _+_, _≤_, _<_}
 use native.Mathlib.Nat as N
 use native.Mathlib.Nat.{suc-inj, suc-ne-zero, not-suc-le-zero, le-of-suc-le-suc}
 use native.Mathlib.Decide.{decLt, ℕ-discrete}
 use native.Mathlib.Omega.{arith}
 use borrow.Author.Tests.{lt-ltb, le-ltb}
-use lib.ListN.{length, set, length-append, List·getD-append, List·getD-eq-default}
-use lib.Seq.{getD-append-add, getD-set-same, getD-set-other}
-use Rattle.buffers.specs.Positions.{at, table, rows, after, join, Same}
+use lib.ListN.{length, set, List·getD-eq-default}
+use lib.Seq.{getD-set-same, getD-set-other}
+use Rattle.buffers.specs.Positions.{at, table, after, join, Same}
 
 pub after-zero : (f : ℕ → ℕ) → after 0 f ≡ f
 after-zero f = fun-ext (λ i. ap f (N.zero-add i))
@@ -67,29 +67,6 @@ list-table n f h = fun-ext (λ i. go i (decLt i n))
     go i (no g) =
         let l : n ≤ i = omega arith in
         List·getD-eq-default (table n f) 0 (omega (arith, length-table n f)) ∙ sym (h i l)
-
--- ---- rows
-
-pub length-rows : (k n : ℕ) (f : ℕ → ℕ → ℕ) → length (rows k n f) ≡ k * n
-unfolding rows
-length-rows zero n f = sym (N.zero-mul n)
-length-rows (suc k) n f = length-append (table n (f zero)) (rows k n (λ t. f (suc t))) ∙ omega (arith, length-table n (f zero), length-rows k n (λ t. f (suc t)))
-
-pub rows-last : (k n : ℕ) (f : ℕ → ℕ → ℕ) → rows (suc k) n f ≡ rows k n f ++ table n (f k)
-unfolding rows
-rows-last zero n f = append-nil (table n (f zero))
-rows-last (suc k) n f = ap (λ (l : List ℕ). table n (f zero) ++ l) (rows-last k n (λ t. f (suc t))) ∙ sym (append-assoc (table n (f zero)) (rows k n (λ t. f (suc t))) (table n (f (suc k))))
-
-pub rows-at : (k n : ℕ) (f : ℕ → ℕ → ℕ) (t i : ℕ) → t < k → i < n → at (rows k n f) (t * n + i) ≡ f t i
-unfolding rows
-rows-at zero n f t i h l = absurd (not-suc-le-zero h)
-rows-at (suc k) n f zero i h l =
-    let e : 0 * n + i ≡ i = omega arith in
-    rw e (List·getD-append (table n (f zero)) (rows k n (λ t. f (suc t))) 0 i (omega (arith, length-table n (f zero))) ∙ table-at n (f zero) i l)
-rows-at (suc k) n f (suc t) i h l =
-    let m = length-table n (f zero) in
-    let e : suc t * n + i ≡ length (table n (f zero)) + (t * n + i) = omega arith in
-    rw e (getD-append-add (table n (f zero)) (rows k n (λ t. f (suc t))) (t * n + i) 0 ∙ rows-at k n (λ t. f (suc t)) t i (le-of-suc-le-suc h) l)
 
 -- ---- one position stored
 

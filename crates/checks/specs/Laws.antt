@@ -1,19 +1,20 @@
 -- Laws of searches, and of going through a list of checks.
-use mathlib.Core.Path.{_≡_, refl, sym, ap, _∙_}
+use mathlib.Core.Path.{_≡_, refl, sym, ap, ap₂, _∙_}
 use mathlib.Core.Bool.{Bool, true, false, cond, not, _&&_, false≢true}
 use mathlib.Core.List.{List, [], _∷_, _++_, append-nil}
 use mathlib.Core.Option.{Option, none, some}
 use Prim.Native.Nat.{ℕ, zero, suc, suc-le-suc, _+_, _≤_, _<_}
 use native.Mathlib.Nat.{le-of-suc-le-suc}
 use native.Mathlib.Numerals.{add-one}
+use native.Mathlib.Decide.{decLe}
 use native.Mathlib.Omega.{arith}
-use borrow.Author.Tests.{leb-true, ltb-true, lt-ltb, le-ltb, not-true, not-false}
+use borrow.Author.Tests.{leb-true, le-leb, ltb-true, lt-ltb, le-ltb, not-true, not-false}
 use lib.Dec.{leb, ltb}
-use lib.ListN.{length, getD, drop, drop-of-length-le}
-use lib.Seq.{drop-cons}
+use lib.ListN.{length, getD, take, drop, length-take, drop-of-length-le}
+use lib.Seq.{take-all, drop-cons}
 use Rattle.residue.specs.Residue.{EachBelow}
 use Rattle.checks.specs.Search.{firstFrom, firstNotBelow}
-use Rattle.checks.specs.Checks.{Check, Verdict, accepted, refused, verdict, checked, settled, within, isNone, orZero, allBelow}
+use Rattle.checks.specs.Checks.{Check, Verdict, accepted, refused, verdict, checked, settled, within, isNone, orZero, allBelow, wordChecks}
 use Rattle.checks.specs.Answers.{checkedReading, refusalReading, foundReading}
 use Rattle.checks.specs.declared.Refusal.{Refusal}
 use Rattle.checks.specs.declared.Checked.{Checked}
@@ -169,6 +170,29 @@ refuses {A} {B} a b code position (c ∷ cs) ds e = go (refuses a b code positio
 pub settled-answer : {A B : Type 0} (v : Verdict A) (before after : B) → settled v before after .answer ≡ v
 settled-answer (accepted a) before after = refl
 settled-answer (refused c p) before after = refl
+
+-- what an accepted call keeps, every call keeps
+pub settled-keeps : {A B C : Type 0} (v : Verdict A) (before after : B) (view : B → C) → view after ≡ view before → view (settled v before after .buffers) ≡ view before
+settled-keeps (accepted a) before after view e = e
+settled-keeps (refused c p) before after view e = refl
+
+-- what an accepted call would write matters only where it is accepted
+pub settled-same : {A B : Type 0} (v : Verdict A) (before s t : B) → ((a : A) → v ≡ accepted a → s ≡ t) → settled v before s ≡ settled v before t
+settled-same (accepted a) before s t e = ap (settled (accepted a) before) (e a refl)
+settled-same (refused c p) before s t e = refl
+
+-- checks 8 and 9 look at the first `count` words only
+pub words-front : (count q : ℕ) (words words′ : List ℕ) → take count words ≡ take count words′ → wordChecks count q words ≡ wordChecks count q words′
+words-front count q words words′ e =
+    let l : leb count (length words) ≡ leb count (length words′) = front words ∙ ap (λ (l : List ℕ). leb count (length l)) e ∙ sym (front words′) in
+    ap₂ (λ (b : Bool) (l : List ℕ). record { holds = b; code = 8; position = 0 } ∷ allBelow 9 q l ∷ []) l e
+  where
+    front : (l : List ℕ) → leb count (length l) ≡ leb count (length (take count l))
+    front l = go (decLe count (length l))
+      where
+        go : Dec (count ≤ length l) → leb count (length l) ≡ leb count (length (take count l))
+        go (yes h) = le-leb count (length l) h ∙ sym (le-leb count (length (take count l)) (omega (arith, length-take count l)))
+        go (no h) = ap (λ (m : List ℕ). leb count (length m)) (sym (take-all count l (omega arith)))
 
 -- ---- what a call learns from its checks
 

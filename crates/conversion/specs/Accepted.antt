@@ -1,13 +1,10 @@
 -- What it means, in plain facts, that a call passes its checks.
-use mathlib.Core.Path.{_≡_, ap}
+use mathlib.Core.Path.{_≡_}
 use mathlib.Core.List.{List, [], _∷_}
 use Prim.Native.Nat.{ℕ, _≤_, _<_}
-use native.Mathlib.Nat as N
 use native.Mathlib.Omega.{arith}
 use borrow.Author.Tests.{leb-true, le-leb, eqb-true}
-use lib.ListN.{length, take}
-use lib.Seq.{getD-take, length-take-le}
-use Rattle.residue.specs.Residue.{EachBelow}
+use lib.ListN.{length}
 use Rattle.buffers.specs.Positions.{at, Below}
 use Rattle.checks.specs.Checks.{atLeast, wordChecks}
 use Rattle.checks.specs.Laws.{Hold, hold-front, hold-rest, hold-both, within-true, none-each-below}

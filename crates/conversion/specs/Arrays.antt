@@ -11,6 +11,7 @@ use Rattle.residue.specs.Residue.{EachBelow}
 use Rattle.buffers.specs.Positions.{at, after, Same, Below}
 use Rattle.checks.specs.Checks.{isNone, wordChecks}
 use Rattle.checks.specs.Laws.{Hold, none-each-below, each-below-none}
+use Rattle.secrecy.specs.Secrecy.{Full}
 
 -- eight words, of which the first n are those of f
 pub record Holds (n : ℕ) (f : ℕ → ℕ) (a : List ℕ) : Type 0 where
@@ -52,3 +53,6 @@ drawn-words q count words d = (le-leb _ _ e, (ap isNone (each-below-none q (take
     below i l =
         let m : i < count = omega (arith, length-take-le count words e) in
         rw (getD-take count words i 0 m) (rw N.zero-add at (d .below i m))
+
+pub full-drawn : {q count : ℕ} {words : List ℕ} → Full q count words → Drawn q 0 count words
+full-drawn f = record { room = omega (arith, f .count); below = λ i l. f .below (0 + i) (omega (arith, f .count)) }

@@ -11,14 +11,11 @@ use Rattle.secrecy.specs.Secrecy.{Full}
 use Rattle.secrecy.specs.Laws.{weaken}
 use Rattle.secrecy.specs.Translation.{indistinguishable}
 use Rattle.conversion.specs.Conversion.{convertBit, bitWords, sharingChecks, bitChecks, converted}
-use Rattle.conversion.specs.Arrays.{Drawn}
+use Rattle.conversion.specs.Arrays.{full-drawn}
 use Rattle.conversion.specs.Accepted.{first-lt, shared-bit, call-holds}
 use Rattle.conversion.specs.Calls.{call-share, call-converts}
 use Rattle.conversion.specs.Translation.{bitForm, convertBit-form, refreshWords, bit-equivariant}
 use Rattle.conversion.specs.Secrecy.{BitSecrecy}
-
-full-drawn : {q W : ℕ} {ws : List ℕ} → Full q W ws → Drawn q 0 W ws
-full-drawn f = record { room = omega (arith, f .count); below = λ i l. f .below (0 + i) (omega (arith, f .count)) }
 
 module _ (n q : ℕ) (bits : List ℕ) (h : Hold (sharingChecks n q bits)) (words : List ℕ) (f : Full q (bitWords n) words) (out : List ℕ) (r : n ≤ length out) where
   full-holds : Hold (bitChecks n q bits words (length out))

@@ -4,12 +4,9 @@ use mathlib.Core.List.{List}
 use Prim.Native.Nat.{_-_, _*_, _≤_}
 use native.Mathlib.Nat.{one-mul}
 use native.Mathlib.Omega.{arith}
-use lib.ListN.{take}
 use borrow.Author.Tests.{le-leb, lt-leb, eq-eqb, ne-eqb}
 use borrow.Author.Needs.{needs}
-use Rattle.checks.specs.Search.{firstNotBelow}
 use Rattle.checks.specs.Checks.{Check, checked, wordChecks}
-use Rattle.checks.specs.Answers.{checkedReading}
 use Rattle.checks.specs.Laws.{Past, pass, fail, pass-none, fail-some, pass-all, test-holds, test-fails, search-none, search-some, part-passed, part-failed, within-true}
 use Rattle.conversion.specs.Conversion.{bitWords, bitChecks}
 use Rattle.conversion.proofs.Steps.{products}

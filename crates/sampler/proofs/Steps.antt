@@ -1,0 +1,149 @@
+-- Facts of the code's steps.
+use mathlib.Core.Path.{_≡_, refl, sym, ap, _∙_}
+use mathlib.Core.List.{List, _++_}
+use Prim.Native.Nat.{ℕ, _+_, _-_, _*_, _/_, _^_, _≤_, _<_}
+use native.Mathlib.Nat as N
+use native.Mathlib.Numerals.{add-one}
+use native.Mathlib.Omega.{arith}
+use lib.Arith.{digits-lt}
+use lib.Bits.{bitAnd, and-mask}
+use lib.ListN.{length, set, replicate, length-set, length-append, length-replicate, List·getD-append}
+use lib.Seq.{getD-append-add}
+use Rattle.residue.specs.Residue.{add, sub, sum, EachBelow}
+use Rattle.residue.specs.Laws.{sub-cong}
+use Rattle.residue.specs.Sum.{sum-cong, sum-last, each-below-append}
+use Rattle.buffers.specs.Overwrite.{overwrite}
+use Rattle.buffers.specs.Laws.{length-overwrite, overwrite-append, overwrite-again, front-below}
+use Rattle.buffers.specs.Positions.{at, table, rows, after, Below}
+use Rattle.buffers.specs.PositionLaws.{after-zero, table-same, set-agrees}
+use Rattle.buffers.specs.Rows.{length-rows, rows-at, rows-below}
+use Rattle.checks.specs.Width.{bit}
+use Rattle.conversion.specs.Conversion.{convertBit, bitWords}
+use Rattle.conversion.specs.Laws.{convertBit-local}
+use Rattle.conversion.specs.Arrays.{Holds, Drawn}
+use Rattle.sampler.specs.Sampler.{bitsAt, row, stringShare, sampleShare, sampleShares, sampleWords, workLength}
+use Rattle.sampler.specs.Laws.{bit-lt}
+
+-- the numbers that the code computes
+pub record Small (n k : ℕ) : Type 0 where
+  pub bits : 2 * k ≤ 32
+  pub per : bitWords n ≤ 64
+  pub words : sampleWords n k ≤ 2048
+  pub rows : workLength n k ≤ 256
+
+pub small : (n k : ℕ) → n ≤ 8 → k ≤ 16 → Small n k
+small n k h l =
+    let b : 2 * k ≤ 32 = omega arith in
+    let m : n - 1 ≤ 8 = omega arith in
+    let p : bitWords n ≤ 64 = N.mul-le-mul h m in
+    record { bits = b; per = p; words = N.mul-le-mul b p; rows = N.mul-le-mul b h }
+
+-- ---- the bits of the shares
+
+pub bit-mask : (x t : ℕ) → bitAnd (x / 2 ^ t) 1 ≡ bit x t
+bit-mask x t = and-mask (x / 2 ^ t) 1
+
+module _ (f : ℕ → ℕ) where
+  pub holds-none : Holds 0 f (replicate 8 0)
+  holds-none = record { eight = refl; same = λ i l. absurd (omega arith) }
+
+  pub holds-next : (i v : ℕ) (a : List ℕ) → i < 8 → v ≡ f i → Holds i f a → Holds (i + 1) f (set a i v)
+  holds-next i v a h e H =
+      record { eight = length-set a i v ∙ H .eight; same = λ j l. set-agrees a i v f (omega (arith, H .eight)) e j (λ d. H .same j (omega arith)) }
+
+-- ---- the row of a bit
+
+-- row t of k lies before the end
+pub row-fits : {t k : ℕ} (m : ℕ) → t < k → t * m + m ≤ k * m
+row-fits {t} {k} m h = N.le-trans (N.le-of-eq (sym (N.suc-mul t m))) (N.mul-le-mul-right m h)
+
+module _ (q n t : ℕ) (x bits : List ℕ) (large : 2 < q) (H : Holds n (bitsAt (at x) t) bits) where
+  pub bits-below : Below 2 n (at bits)
+  bits-below i l = rw (H .same i l) (bit-lt (at x i) t)
+
+  pub row-done : (start p : ℕ) (words : List ℕ) → 1 ≤ n → p ≡ start + t * bitWords n → table n (convertBit q n (at bits) (after p (at words))) ≡ table n (row q n (at x) (after start (at words)) t)
+  unfolding row
+  row-done start p words h e =
+      let b : at bits 0 < q = omega (arith, bits-below 0 h) in
+      let d : bitsAt (at x) t 0 < q = omega (arith, bit-lt (at x 0) t) in
+      table-same n _ _ (convertBit-local q n (at bits) (bitsAt (at x) t) _ _ b d (H .same) (λ j l. ap (at words) (omega arith)))
+
+-- ---- sums over rows
+
+module _ (q : ℕ) (f : ℕ → ℕ) where
+  pub sum-none : 0 ≡ sum q 0 f
+  unfolding sum
+  sum-none = refl
+
+  pub sum-next : (t s v : ℕ) → s ≡ sum q t f → v ≡ add q s (f t) → v ≡ sum q (t + 1) f
+  sum-next t s v e d = d ∙ ap (λ (z : ℕ). add q z (f t)) e ∙ sym (sum-last q t f) ∙ ap (λ (m : ℕ). sum q m f) (sym (add-one t))
+
+  pub sum-all : (t k s : ℕ) → t ≡ k → s ≡ sum q t f → s ≡ sum q k f
+  sum-all t k s h e = e ∙ ap (λ (m : ℕ). sum q m f) h
+
+-- column i of row t of k rows
+pub column-lt : {q start k n : ℕ} {work : List ℕ} (t i : ℕ) → t < k → i < n → Drawn q start (k * n) work → at work (start + (t * n + i)) < q
+column-lt {n = n} t i h l d = d .below (t * n + i) (digits-lt h l)
+
+-- ---- the work area with the rows of both strings
+
+module _ (k n : ℕ) (f g : ℕ → ℕ → ℕ) where
+  both-rows : List ℕ
+  both-rows = rows k n f ++ rows k n g
+
+  length-both : length both-rows ≡ workLength n k
+  unfolding both-rows
+  length-both = length-append (rows k n f) (rows k n g) ∙ omega (arith, length-rows k n f, length-rows k n g)
+
+  both-below : (q : ℕ) → ((t : ℕ) → Below q n (f t)) → ((t : ℕ) → Below q n (g t)) → EachBelow q both-rows
+  unfolding both-rows
+  both-below q a b = each-below-append q (rows k n f) (rows k n g) (rows-below q k n f (λ t l. a t)) (rows-below q k n g (λ t l. b t))
+
+  -- first the rows of the one, then those of the other
+  module _ (before first work : List ℕ) (e : first ≡ overwrite before 0 (rows k n f)) (d : work ≡ overwrite first (k * n) (rows k n g)) where
+    filled : work ≡ overwrite before 0 both-rows
+    unfolding both-rows
+    filled =
+        let m : k * n ≡ 0 + length (rows k n f) = omega (arith, length-rows k n f) in
+        d ∙ rw (e, m) (overwrite-append before 0 (rows k n f) (rows k n g) (omega arith))
+
+    filled-at : (p : ℕ) → p < workLength n k → at work p ≡ at both-rows p
+    filled-at p h = ap (λ (l : List ℕ). at l p) filled ∙ front-below before both-rows p (omega (arith, length-both))
+
+    pub filled-length : workLength n k ≤ length before → length work ≡ length before
+    filled-length h = ap length filled ∙ length-overwrite before 0 both-rows (omega (arith, length-both))
+
+    pub filled-drawn : (q : ℕ) → workLength n k ≤ length before → ((t : ℕ) → Below q n (f t)) → ((t : ℕ) → Below q n (g t)) → Drawn q 0 (workLength n k) work
+    filled-drawn q h a b =
+        record {
+          room = omega (arith, filled-length h);
+          below = λ p l. let z : 0 + p ≡ p = omega arith in rw (z, filled-at p l) (both-below q a b p (omega (arith, length-both)));
+        }
+
+    module _ (t i : ℕ) (h : t < k) (l : i < n) where
+      place : t * n + i < k * n
+      place = digits-lt h l
+
+      pub filled-first : at work (0 + (t * n + i)) ≡ f t i
+      unfolding both-rows
+      filled-first =
+          let z : 0 + (t * n + i) ≡ t * n + i = omega arith in
+          rw z (filled-at (t * n + i) (omega (arith, place)) ∙ List·getD-append (rows k n f) (rows k n g) 0 (t * n + i) (omega (arith, place, length-rows k n f)) ∙ rows-at k n f t i h l)
+
+      pub filled-second : at work (k * n + (t * n + i)) ≡ g t i
+      unfolding both-rows
+      filled-second =
+          filled-at (k * n + (t * n + i)) (omega (arith, place)) ∙ rw (← length-rows k n f) (getD-append-add (rows k n f) (rows k n g) (t * n + i) 0) ∙ rows-at k n g t i h l
+
+    pub filled-zeroed : overwrite work 0 (replicate (workLength n k) 0) ≡ overwrite before 0 (replicate (workLength n k) 0)
+    filled-zeroed =
+        ap (λ (l : List ℕ). overwrite l 0 (replicate (workLength n k) 0)) filled
+        ∙ overwrite-again before both-rows (replicate (workLength n k) 0) (length-replicate (workLength n k) 0 ∙ sym length-both)
+
+-- the columns of both strings' rows sum to the shares
+pub columns-shares : (n k q : ℕ) (x y words before first work : List ℕ) (e : first ≡ overwrite before 0 (rows k n (row q n (at x) (after 0 (at words)))))
+    (d : work ≡ overwrite first (k * n) (rows k n (row q n (at y) (after (k * bitWords n) (at words)))))
+    → table n (λ i. sub q (sum q k (λ t. at work (0 + (t * n + i)))) (sum q k (λ t. at work (k * n + (t * n + i))))) ≡ sampleShares n k q x y words
+unfolding sampleShares sampleShare stringShare
+columns-shares n k q x y words before first work e d =
+    table-same n _ _ (λ i l. sub-cong refl (sum-cong q k _ _ (λ t h. filled-first k n _ _ before first work e d t i h l ∙ ap (λ (w : ℕ → ℕ). row q n (at x) w t i) (after-zero (at words)))) (sum-cong q k _ _ (λ t h. filled-second k n _ _ before first work e d t i h l)))

@@ -1,0 +1,83 @@
+-- The rows of x and behind them those of y, their columns summed, and zeros over them.
+use mathlib.Core.Path.{refl, ap, _∙_}
+use Prim.Native.Nat.{_*_}
+use native.Mathlib.Omega.{arith}
+use borrow.Author.Needs.{needs}
+use Rattle.buffers.specs.Overwrite.{overwrite}
+use Rattle.conversion.specs.Conversion.{bitWords}
+use Rattle.conversion.specs.Arrays.{drawn-part}
+use Rattle.sampler.specs.Laws.{row-lt}
+use Rattle.sampler.proofs.Steps.{Small, small, filled-drawn, filled-zeroed, columns-shares}
+use Rattle.sampler.proofs.write_sample.Statement.{statement}
+use Rattle.sampler.proofs.write_sample.Tie as tie
+
+sizes : (s : tie.Start) → Small (s .args .n) (s .args .k)
+sizes s = small _ _ (s .pre .1) (s .pre .2)
+
+convert-string-requires : tie.Need-convert-string-requires
+convert-string-requires c κs =
+    let s = c .before .before .before .before .before .before in
+    (omega arith, omega arith, omega arith, s .pre .3, s .pre .4, drawn-part 0 0 _ refl (omega arith) (s .pre .6), omega arith)
+
+sub-convert-string : tie.Need-sub-convert-string
+sub-convert-string c = search needs
+
+mul-convert-string : tie.Need-mul-convert-string
+mul-convert-string c = omega (arith, sizes (c .before .before .before .before .before .before .before .before .before))
+
+mul-convert-string-2 : tie.Need-mul-convert-string-2
+mul-convert-string-2 c = omega (arith, c .before .before .before .before .before .before .before .before .before .pre .6 .room)
+
+mul-convert-string-3 : tie.Need-mul-convert-string-3
+mul-convert-string-3 c = search needs
+
+convert-string-requires-2 : tie.Need-convert-string-requires-2
+convert-string-requires-2 c κs =
+    let s = c .before .before .before .before .before .before .before .before .before .before in
+    let w = s .args .k * bitWords (s .args .n) in
+    (omega arith, omega arith, omega arith, s .pre .3, s .pre .5, drawn-part w w w (omega arith) (omega arith) (s .pre .6), search needs)
+
+write-shares-requires : tie.Need-write-shares-requires
+write-shares-requires c κs =
+    let s = c .before .before .before .before .before .before .before .before .before .before .before .before .before .before .before in
+    let q = s .pre .3 in
+    (omega arith, omega arith, q, filled-drawn _ _ _ _ _ _ _ (c .before .before .before .before .before .before .before .before .convert-string .ensures) (c .before .before .before .before .convert-string2 .ensures) _ (s .pre .8) (λ t. row-lt _ _ (q .large) _ _ t) (λ t. row-lt _ _ (q .large) _ _ t), search needs)
+
+mul-zero : tie.Need-mul-zero
+mul-zero c = search needs
+
+mul-zero-2 : tie.Need-mul-zero-2
+mul-zero-2 c = search needs
+
+zero-requires : tie.Need-zero-requires
+zero-requires c κs = search needs
+
+same-length : tie.Need-same-length
+same-length c = search needs
+
+same-length-2 : tie.Need-same-length-2
+same-length-2 c = search needs
+
+returns : tie.Need-returns
+returns c =
+    let e = c .before .before .before .before .before .before .before .before .before .before .before .before .before .before .before .convert-string .ensures in
+    let d = c .before .before .before .before .before .before .before .before .before .before .before .convert-string2 .ensures in
+    (c .before .before .before .before .before .before .write-shares .ensures ∙ ap (overwrite _ 0) (columns-shares _ _ _ _ _ _ _ _ _ e d), c .before .before .zero .ensures ∙ filled-zeroed _ _ _ _ _ _ _ e d)
+
+pub write-sample-spec : {M : Type 1} → statement M
+write-sample-spec =
+    tie.close
+    (tie.spec
+    convert-string-requires
+    sub-convert-string
+    mul-convert-string
+    mul-convert-string-2
+    mul-convert-string-3
+    convert-string-requires-2
+    write-shares-requires
+    mul-zero
+    mul-zero-2
+    zero-requires
+    same-length
+    same-length-2
+    returns)

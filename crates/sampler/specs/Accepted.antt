@@ -1,0 +1,62 @@
+-- What it means, in plain facts, that a call passes its checks.
+use mathlib.Core.Path.{_≡_}
+use mathlib.Core.List.{List}
+use Prim.Native.Nat.{ℕ, _+_, _*_, _^_, _≤_}
+use borrow.Author.Tests.{leb-true, le-leb, eqb-true}
+use lib.ListN.{length}
+use Rattle.residue.specs.Residue.{EachBelow}
+use Rattle.checks.specs.Checks.{wordChecks}
+use Rattle.checks.specs.Laws.{Hold, hold-front, hold-rest, hold-both, within-true, none-each-below}
+use Rattle.conversion.specs.Arrays.{Drawn, words-drawn, drawn-words}
+use Rattle.sampler.specs.Sampler.{sampleWords, pairChecks, roomChecks, bufferChecks, sampleChecks}
+use Rattle.sampler.specs.Secrecy.{Room}
+
+-- two strings of k bits, each in n shares
+pub record SharedPair (n k q : ℕ) (x y : List ℕ) : Type 0 where
+  pub two : 2 ≤ n
+  pub eight : n ≤ 8
+  pub one : 1 ≤ k
+  pub sixteen : k ≤ 16
+  pub modulus : 2 * k + 1 ≤ q
+  pub x-count : length x ≡ n
+  pub y-count : length y ≡ n
+  pub x-narrow : EachBelow (2 ^ k) x
+  pub y-narrow : EachBelow (2 ^ k) y
+
+module _ (n k q : ℕ) (x y : List ℕ) where
+  pub shared-pair : Hold (pairChecks n k q x y) → SharedPair n k q x y
+  shared-pair h =
+      record {
+        two = within-true 2 8 n (h .0) .0;
+        eight = within-true 2 8 n (h .0) .1;
+        one = within-true 1 16 k (h .1 .0) .0;
+        sixteen = within-true 1 16 k (h .1 .0) .1;
+        modulus = leb-true _ _ (h .1 .1 .0);
+        x-count = eqb-true _ _ (h .1 .1 .1 .0);
+        y-count = eqb-true _ _ (h .1 .1 .1 .1 .0);
+        x-narrow = none-each-below (2 ^ k) x 0 (h .1 .1 .1 .1 .1 .0);
+        y-narrow = none-each-below (2 ^ k) y 0 (h .1 .1 .1 .1 .1 .1 .0);
+      }
+
+  module _ (words out work : List ℕ) where
+    abbrev Passes : Type 0
+    Passes = Hold (sampleChecks n k q x y words (length out) (length work))
+
+    pub call-pair : Passes → SharedPair n k q x y
+    call-pair h = shared-pair (hold-front (pairChecks n k q x y) (bufferChecks n k q words (length out) (length work)) h)
+
+    buffers : Passes → Hold (bufferChecks n k q words (length out) (length work))
+    buffers h = hold-rest (pairChecks n k q x y) (bufferChecks n k q words (length out) (length work)) h
+
+    pub call-drawn : Passes → Drawn q 0 (sampleWords n k) words
+    call-drawn h = words-drawn q (sampleWords n k) words (hold-front (wordChecks (sampleWords n k) q words) (roomChecks n k (length out) (length work)) (buffers h))
+
+    pub call-room : Passes → Room n k out work
+    call-room h = (leb-true _ _ (buffers h .1 .1 .0), leb-true _ _ (buffers h .1 .1 .1 .0))
+
+    -- with enough words below q, and room, a pair of shared strings is accepted
+    pub call-holds : Hold (pairChecks n k q x y) → Drawn q 0 (sampleWords n k) words → Room n k out work → Passes
+    call-holds h d r =
+        hold-both (pairChecks n k q x y) (bufferChecks n k q words (length out) (length work)) h
+        (hold-both (wordChecks (sampleWords n k) q words) (roomChecks n k (length out) (length work)) (drawn-words q (sampleWords n k) words d)
+        (le-leb _ _ (r .0), (le-leb _ _ (r .1), tt)))

@@ -1,0 +1,126 @@
+-- What holds of every call.
+use mathlib.Core.Path.{_≡_, sym, ap, ap₂, _∙_}
+use mathlib.Core.List.{List, _++_}
+use Prim.Native.Nat.{ℕ, _<_}
+use native.Mathlib.Omega.{arith}
+use lib.ListN.{length, take, drop, replicate, length-replicate}
+use lib.Seq.{getD-take}
+use Rattle.residue.specs.Residue.{reduce, reduceℤ, total, EachBelow}
+use Rattle.residue.specs.Integers.{reduceℤ-minus}
+use Rattle.residue.specs.Sum.{sum-cong, sum-list}
+use Rattle.buffers.specs.Overwrite.{overwrite}
+use Rattle.buffers.specs.Laws.{take-front, drop-front, front-below}
+use Rattle.buffers.specs.Positions.{at}
+use Rattle.buffers.specs.PositionLaws.{length-table, table-at, table-same}
+use Rattle.checks.specs.Checks.{Check, Outcome, Verdict, accepted, verdict, settled}
+use Rattle.checks.specs.Laws.{Hold, accepts, accepted-holds, settled-answer, settled-keeps, settled-same, words-front}
+use Rattle.masking.specs.Sharing.{xorAll}
+use Rattle.masking.specs.Signed.{weight, differenceOfWeights}
+use Rattle.sampler.specs.Sampler.{Buffers, both, sampleShare, sampleShares, sampleWords, workLength, pairChecks, roomChecks, sampleChecks, buffersAfter, sampled}
+use Rattle.sampler.specs.Secrecy.{Samples}
+use Rattle.sampler.specs.Laws.{share-lt, share-local, share-sum}
+use Rattle.sampler.specs.Accepted.{SharedPair, call-pair}
+
+pub length-shares : (n k q : ℕ) (x y words : List ℕ) → length (sampleShares n k q x y words) ≡ n
+unfolding sampleShares
+length-shares n k q x y words = length-table n (sampleShare q n k (at x) (at y) (at words))
+
+pub shares-at : (n k q : ℕ) (x y words : List ℕ) (i : ℕ) → i < n → at (sampleShares n k q x y words) i ≡ sampleShare q n k (at x) (at y) (at words) i
+unfolding sampleShares
+shares-at n k q x y words = table-at n (sampleShare q n k (at x) (at y) (at words))
+
+-- ---- the written steps, on strings that pass their checks
+
+module _ {n k q : ℕ} {x y : List ℕ} (P : SharedPair n k q x y) (words : List ℕ) where
+  large : 2 < q
+  large = omega (arith, P .one, P .modulus)
+
+  -- every share is below q
+  pub shares-below : EachBelow q (sampleShares n k q x y words)
+  shares-below i l = rw (shares-at n k q x y words i (omega (arith, length-shares n k q x y words))) (share-lt q n large k (at x) (at y) (at words) i)
+
+  -- the shares' residue is the weight of x less the weight of y, modulo q
+  pub shares-residue : reduce q (total (sampleShares n k q x y words)) ≡ reduceℤ q (differenceOfWeights (xorAll x) (xorAll y))
+  shares-residue =
+      let e = length-shares n k q x y words in
+      let z : 0 < q = omega (arith, large) in
+      sym (sum-list q (sampleShares n k q x y words)) ∙ rw e (sum-cong q n _ _ (shares-at n k q x y words))
+      ∙ share-sum q n large k (P .sixteen) x y (at words) (P .x-count) (P .y-count) (P .x-narrow) (P .y-narrow)
+      ∙ sym (reduceℤ-minus q z (weight (xorAll x)) (weight (xorAll y)))
+
+  -- words behind the first W do not matter
+  pub shares-words : (words′ : List ℕ) → take (sampleWords n k) words ≡ take (sampleWords n k) words′ → sampleShares n k q x y words ≡ sampleShares n k q x y words′
+  unfolding sampleShares
+  shares-words words′ e =
+      table-same n _ _ (share-local q n large k (at x) (at y) (at words) (at words′) (λ j l. sym (getD-take (sampleWords n k) words j 0 l) ∙ ap (λ (l : List ℕ). at l j) e ∙ getD-take (sampleWords n k) words′ j 0 l))
+
+-- ---- a call that passes every check
+
+module _ (n k q : ℕ) (x y words out work : List ℕ) (h : Hold (sampleChecks n k q x y words (length out) (length work))) where
+  -- is accepted with W; its shares stand in front of the output, and zeros in front of the work area
+  pub call-accepted : sampled n k q x y words out work ≡ record { answer = accepted (sampleWords n k); buffers = buffersAfter n k q x y words out work }
+  unfolding sampled
+  call-accepted = ap (λ (v : Verdict ℕ). settled v (both out work) (buffersAfter n k q x y words out work)) (accepts (sampleWords n k) (sampleChecks n k q x y words (length out) (length work)) h)
+
+  pub call-shares : take n (sampled n k q x y words out work .buffers .out) ≡ sampleShares n k q x y words
+  call-shares =
+      ap (λ (o : Outcome ℕ Buffers). take n (o .buffers .out)) call-accepted
+      ∙ ap (λ (m : ℕ). take m (overwrite out 0 (sampleShares n k q x y words))) (sym (length-shares n k q x y words)) ∙ take-front out (sampleShares n k q x y words)
+
+  pub call-share : (i : ℕ) → i < n → at (sampled n k q x y words out work .buffers .out) i ≡ sampleShare q n k (at x) (at y) (at words) i
+  call-share i l =
+      ap (λ (o : Outcome ℕ Buffers). at (o .buffers .out) i) call-accepted
+      ∙ front-below out (sampleShares n k q x y words) i (omega (arith, length-shares n k q x y words)) ∙ shares-at n k q x y words i l
+
+  pub call-zeroed : take (workLength n k) (sampled n k q x y words out work .buffers .work) ≡ replicate (workLength n k) 0
+  call-zeroed =
+      ap (λ (o : Outcome ℕ Buffers). take (workLength n k) (o .buffers .work)) call-accepted
+      ∙ ap (λ (m : ℕ). take m (overwrite work 0 (replicate (workLength n k) 0))) (sym (length-replicate (workLength n k) 0)) ∙ take-front work (replicate (workLength n k) 0)
+
+  pub call-samples : Samples n k q x y words (sampled n k q x y words out work)
+  call-samples =
+      record {
+        count = ap (λ (o : Outcome ℕ Buffers). o .answer) call-accepted;
+        shares = call-shares;
+        residue = ap (λ (l : List ℕ). reduce q (total l)) call-shares ∙ shares-residue (call-pair n k q x y words out work h) words;
+      }
+
+-- ---- every call, accepted or refused
+
+module _ (n k q : ℕ) (x y words out work : List ℕ) where
+  abbrev decided : ℕ → ℕ → Verdict ℕ
+  decided room area = verdict (sampleChecks n k q x y words room area) (sampleWords n k)
+
+  -- output positions past n keep their content
+  pub out-kept : drop n (sampled n k q x y words out work .buffers .out) ≡ drop n out
+  unfolding sampled
+  out-kept =
+      settled-keeps (decided (length out) (length work)) (both out work) (buffersAfter n k q x y words out work) (λ b. drop n (b .out))
+      (ap (λ (m : ℕ). drop m (overwrite out 0 (sampleShares n k q x y words))) (sym (length-shares n k q x y words)) ∙ drop-front out (sampleShares n k q x y words) ∙ ap (λ (m : ℕ). drop m out) (length-shares n k q x y words))
+
+  -- and work positions past 2kn theirs
+  pub work-kept : drop (workLength n k) (sampled n k q x y words out work .buffers .work) ≡ drop (workLength n k) work
+  unfolding sampled
+  work-kept =
+      let e = length-replicate {A = ℕ} (workLength n k) 0 in
+      settled-keeps (decided (length out) (length work)) (both out work) (buffersAfter n k q x y words out work) (λ b. drop (workLength n k) (b .work))
+      (ap (λ (m : ℕ). drop m (overwrite work 0 (replicate (workLength n k) 0))) (sym e) ∙ drop-front work (replicate (workLength n k) 0) ∙ ap (λ (m : ℕ). drop m work) e)
+
+  -- the outcome does not depend on words behind the first W
+  pub words-behind : (words′ : List ℕ) → take (sampleWords n k) words ≡ take (sampleWords n k) words′ → sampled n k q x y words out work ≡ sampled n k q x y words′ out work
+  unfolding sampled
+  words-behind words′ e =
+      settled-same (decided (length out) (length work)) (both out work) (buffersAfter n k q x y words out work) (buffersAfter n k q x y words′ out work)
+      (λ a p. ap (λ (s : List ℕ). both (overwrite out 0 s) (overwrite work 0 (replicate (workLength n k) 0))) (shares-words (call-pair n k q x y words out work (accepted-holds _ a _ p)) words words′ e))
+      ∙ ap (λ (cs : List Check). settled (verdict (pairChecks n k q x y ++ (cs ++ roomChecks n k (length out) (length work))) (sampleWords n k)) (both out work) (buffersAfter n k q x y words′ out work)) (words-front (sampleWords n k) q words words′ e)
+
+  module _ (out′ work′ : List ℕ) where
+    -- the answer depends on the lengths of output and work area, not on what they held
+    pub answer-before : length out ≡ length out′ → length work ≡ length work′ → sampled n k q x y words out work .answer ≡ sampled n k q x y words out′ work′ .answer
+    unfolding sampled
+    answer-before e d = settled-answer (decided (length out) (length work)) (both out work) (buffersAfter n k q x y words out work) ∙ ap₂ decided e d ∙ sym (settled-answer (decided (length out′) (length work′)) (both out′ work′) (buffersAfter n k q x y words out′ work′))
+
+    -- nor do the shares
+    pub shares-before : Hold (sampleChecks n k q x y words (length out) (length work)) → Hold (sampleChecks n k q x y words (length out′) (length work′))
+        → take n (sampled n k q x y words out work .buffers .out) ≡ take n (sampled n k q x y words out′ work′ .buffers .out)
+    shares-before h h′ = call-shares n k q x y words out work h ∙ sym (call-shares n k q x y words out′ work′ h′)

@@ -1,0 +1,68 @@
+-- What holds of the written steps: the shares are below q, they sum to the difference of the weights, and which words they read.
+use mathlib.Core.Path.{_≡_, refl, sym, ap, ap₂, _∙_}
+use mathlib.Core.List.{List}
+use Prim.Native.Nat.{ℕ, _+_, _*_, _^_, _≤_, _<_}
+use native.Mathlib.Omega.{arith}
+use lib.Arith.{digits-lt}
+use lib.ListN.{length}
+use Rattle.residue.specs.Residue.{reduce, add, neg, sub, sum, EachBelow}
+use Rattle.residue.specs.Laws.{add-lt, sub-reduce}
+use Rattle.residue.specs.Sum.{sum-cong, sum-reduce, sum-add, sum-neg, sum-swap}
+use Rattle.buffers.specs.Positions.{at, after, Same, Below}
+use Rattle.checks.specs.Width.{bit}
+use Rattle.masking.specs.Sharing.{xorAll}
+use Rattle.masking.specs.Signed.{weight}
+use Rattle.masking.specs.Weight.{sum-bits, weight-bits}
+use Rattle.masking.specs.Xor.{xorAll-lt, bit-xorAll}
+use Rattle.conversion.specs.Conversion.{bitWords}
+use Rattle.conversion.specs.Laws.{convertBit-lt, convertBit-local, convertBit-sum}
+use Rattle.sampler.specs.Sampler.{bitsAt, row, stringShare, sampleShare, sampleWords}
+
+pub bit-lt : (x t : ℕ) → bit x t < 2
+bit-lt x t = omega arith
+
+module _ (q n : ℕ) (large : 2 < q) where
+  abbrev positive : 0 < q
+  positive = omega arith
+
+  first-lt : (x : ℕ → ℕ) (t : ℕ) → bitsAt x t 0 < q
+  first-lt x t = omega (arith, bit-lt (x 0) t)
+
+  pub row-lt : (x w : ℕ → ℕ) (t : ℕ) → Below q n (row q n x w t)
+  unfolding row
+  row-lt x w t = convertBit-lt q n (bitsAt x t) (after (t * bitWords n) w) (first-lt x t)
+
+  pub share-lt : (k : ℕ) (x y w : ℕ → ℕ) (i : ℕ) → sampleShare q n k x y w i < q
+  unfolding sampleShare
+  share-lt k x y w i = add-lt q positive (stringShare q n k x w i) (neg q (stringShare q n k y (after (k * bitWords n) w) i))
+
+  -- ---- the words: a string reads its first k × n(n − 1), and a sample its first W
+
+  stringShare-local : (k : ℕ) (x w v : ℕ → ℕ) → Same (k * bitWords n) w v → Same n (stringShare q n k x w) (stringShare q n k x v)
+  unfolding stringShare row
+  stringShare-local k x w v s i l = sum-cong q k _ _ (λ t h. convertBit-local q n (bitsAt x t) (bitsAt x t) _ _ (first-lt x t) (first-lt x t) (λ j m. refl) (λ j m. s (t * bitWords n + j) (digits-lt h m)) i l)
+
+  pub share-local : (k : ℕ) (x y w v : ℕ → ℕ) → Same (sampleWords n k) w v → Same n (sampleShare q n k x y w) (sampleShare q n k x y v)
+  unfolding sampleShare
+  share-local k x y w v s i l =
+      ap₂ (sub q) (stringShare-local k x w v (λ j m. s j (omega arith)) i l) (stringShare-local k y _ _ (λ j m. s (k * bitWords n + j) (omega arith)) i l)
+
+  -- ---- the sum
+
+  module _ (k : ℕ) (l : k ≤ 16) where
+    -- over all shares, a string's bits sum to its weight
+    string-sum : (x : List ℕ) (w : ℕ → ℕ) → length x ≡ n → EachBelow (2 ^ k) x → sum q n (stringShare q n k (at x) w) ≡ reduce q (weight (xorAll x))
+    unfolding stringShare row
+    string-sum x w e h =
+        sum-swap q n k (row q n (at x) w)
+        ∙ sum-cong q k _ (λ t. reduce q (bit (xorAll x) t)) (λ t m. convertBit-sum q positive n (bitsAt (at x) t) (after (t * bitWords n) w) (first-lt (at x) t) (λ i o. bit-lt (at x i) t) ∙ ap (reduce q) (sym (rw e at (bit-xorAll t x))))
+        ∙ sum-reduce q k (bit (xorAll x)) ∙ sum-bits q k (xorAll x) ∙ ap (reduce q) (sym (weight-bits k (xorAll x) l (xorAll-lt k x h)))
+
+    pub share-sum : (x y : List ℕ) (w : ℕ → ℕ) → length x ≡ n → length y ≡ n → EachBelow (2 ^ k) x → EachBelow (2 ^ k) y
+        → sum q n (sampleShare q n k (at x) (at y) w) ≡ sub q (weight (xorAll x)) (weight (xorAll y))
+    unfolding sampleShare
+    share-sum x y w e d h g =
+        sum-add q n (stringShare q n k (at x) w) (λ i. neg q (stringShare q n k (at y) (after (k * bitWords n) w) i))
+        ∙ ap (add q (sum q n (stringShare q n k (at x) w))) (sum-neg q positive n (stringShare q n k (at y) (after (k * bitWords n) w)))
+        ∙ ap₂ (sub q) (string-sum x w e h) (string-sum y (after (k * bitWords n) w) d g)
+        ∙ sub-reduce q (weight (xorAll x)) (weight (xorAll y))

@@ -1,0 +1,75 @@
+-- The masked binomial sampler (document 01: 'The sample', 'Questions put to a call'; source 003, Algorithm 10).
+-- Shares and words are functions of the position. Shares are counted from 0 here, from 1 on the page.
+use mathlib.Core.List.{List, [], _∷_, _++_}
+use Prim.Native.Nat.{ℕ, _*_}
+use lib.ListN.{length, replicate}
+use Rattle.residue.specs.Residue.{sub, sum}
+use Rattle.buffers.specs.Overwrite.{overwrite}
+use Rattle.buffers.specs.Positions.{at, table, after}
+use Rattle.checks.specs.Checks.{Check, Outcome, verdict, settled, parameterChecks, exactly, narrow, atLeast, wordChecks}
+use Rattle.checks.specs.Width.{bit}
+use Rattle.conversion.specs.Conversion.{convertBit, bitWords}
+
+-- ---- the sample
+
+-- bit t of each share
+abbrev pub bitsAt : (ℕ → ℕ) → ℕ → ℕ → ℕ
+bitsAt x t i = bit (x i) t
+
+module _ (q n : ℕ) where
+  -- The n shares of bit t of a string, whose bits take the words w from bit 0 on, each the next n(n − 1).
+  unfoldable pub row : (ℕ → ℕ) → (ℕ → ℕ) → ℕ → ℕ → ℕ
+  row x w t = convertBit q n (bitsAt x t) (after (t * bitWords n) w)
+
+  -- share i, summed over the k bits of a string
+  unfoldable pub stringShare : ℕ → (ℕ → ℕ) → (ℕ → ℕ) → ℕ → ℕ
+  stringShare k x w i = sum q k (λ t. row x w t i)
+
+  -- Output share i: its sum over the x bits, which take their words first, less its sum over the y bits.
+  unfoldable pub sampleShare : ℕ → (ℕ → ℕ) → (ℕ → ℕ) → (ℕ → ℕ) → ℕ → ℕ
+  sampleShare k x y w i = sub q (stringShare k x w i) (stringShare k y (after (k * bitWords n) w) i)
+
+unfoldable pub sampleShares : ℕ → ℕ → ℕ → List ℕ → List ℕ → List ℕ → List ℕ
+sampleShares n k q x y words = table n (sampleShare q n k (at x) (at y) (at words))
+
+-- ---- the call
+
+-- W, the words that a sample takes
+abbrev pub sampleWords : ℕ → ℕ → ℕ
+sampleWords n k = 2 * k * bitWords n
+
+-- a row of n words for each bit
+abbrev pub workLength : ℕ → ℕ → ℕ
+workLength n k = 2 * k * n
+
+-- the checks of the two shared strings: 1 to 7
+abbrev pub pairChecks : ℕ → ℕ → ℕ → List ℕ → List ℕ → List Check
+pairChecks n k q x y = parameterChecks n k q ++ (exactly 4 n x ∷ exactly 5 n y ∷ narrow 6 k x ∷ narrow 7 k y ∷ [])
+
+-- of the output and the work area: 10 and 11
+abbrev pub roomChecks : ℕ → ℕ → ℕ → ℕ → List Check
+roomChecks n k room area = atLeast 10 n room ∷ atLeast 11 (workLength n k) area ∷ []
+
+-- of the word list, the output and the work area: 8 to 11
+abbrev pub bufferChecks : ℕ → ℕ → ℕ → List ℕ → ℕ → ℕ → List Check
+bufferChecks n k q words room area = wordChecks (sampleWords n k) q words ++ roomChecks n k room area
+
+abbrev pub sampleChecks : ℕ → ℕ → ℕ → List ℕ → List ℕ → List ℕ → ℕ → ℕ → List Check
+sampleChecks n k q x y words room area = pairChecks n k q x y ++ bufferChecks n k q words room area
+
+-- output and work area
+pub record Buffers : Type 0 where
+  pub out : List ℕ
+  pub work : List ℕ
+
+abbrev pub both : List ℕ → List ℕ → Buffers
+both out work = record { out = out; work = work }
+
+-- the shares in front of the output, zeros in front of the work area, and the rest as it was
+abbrev pub buffersAfter : ℕ → ℕ → ℕ → List ℕ → List ℕ → List ℕ → List ℕ → List ℕ → Buffers
+buffersAfter n k q x y words out work = both (overwrite out 0 (sampleShares n k q x y words)) (overwrite work 0 (replicate (workLength n k) 0))
+
+-- an accepted call answers W
+unfoldable pub sampled : ℕ → ℕ → ℕ → List ℕ → List ℕ → List ℕ → List ℕ → List ℕ → Outcome ℕ Buffers
+sampled n k q x y words out work =
+    settled (verdict (sampleChecks n k q x y words (length out) (length work)) (sampleWords n k)) (both out work) (buffersAfter n k q x y words out work)

@@ -1,0 +1,176 @@
+// The masked binomial sampler (document 01, 'The sample'; source 003, Algorithm 10).
+// No branch, index, comparison, division or remainder depends on a share, a bit or a random word behind the checks.
+use checks::Answer;
+use checks::Checked;
+use checks::Found;
+use residue::Wide;
+use residue::Word;
+ghost use mathlib.Core.Path.{_≡_};
+ghost use Prim.Native.Nat.{_+_, _*_, _≤_, _<_};
+ghost use lib.ListN.{length, replicate};
+ghost use Rattle.residue.specs.Residue.{sub, sum};
+ghost use Rattle.buffers.specs.Overwrite.{overwrite};
+ghost use Rattle.buffers.specs.Positions.{at, table, rows, after};
+ghost use Rattle.checks.specs.Checks.{checked};
+ghost use Rattle.checks.specs.Answers.{checkedReading, outcome};
+ghost use Rattle.conversion.specs.Conversion.{bitWords};
+ghost use Rattle.conversion.specs.Arrays.{Holds, Drawn, Modulus};
+ghost use Rattle.sampler.specs.Sampler.{bitsAt, row, sampleWords, sampleShares, workLength, pairChecks, sampleChecks, both, sampled};
+ghost use Rattle.sampler.specs.Secrecy.{Secrecy};
+
+// Bit t of each share.
+fn bits_at(shares: &[u16], t: usize) -> [u16; 8]
+    requires { ⌜ (length (now shares) ≤ 8) × (t < 16) ⌝ }
+    ensures { λ r. ⌜ Holds (length (now (shares .entry))) (bitsAt (at (now (shares .entry))) t) r ⌝ }
+{
+    let mut bits = [0u16; 8];
+    for i in 0..shares.len() {
+        bits[i] = (shares[i] >> t) & 1;
+    }
+    bits
+}
+
+// The rows of a string's k bits, from position `to` of the work area on. Each bit takes the next n(n - 1) words from `start` on.
+fn convert_string(
+    shares: &[u16],
+    n: usize,
+    k: usize,
+    q: Word,
+    words: &[Word],
+    start: usize,
+    work: &mut [Word],
+    to: usize,
+)
+    requires { ⌜ (1 ≤ n) × (n ≤ 8) × (k ≤ 16) × Modulus q × (length (now shares) ≡ n) × Drawn q start (k * bitWords n) (now words) × (to + k * n ≤ length (now work)) ⌝ }
+    ensures { λ _. ⌜ now (work .exit) ≡ overwrite (now (work .entry)) to (rows k n (row q n (at (now (shares .entry))) (after start (at (now (words .entry)))))) ⌝ }
+{
+    for t in 0..k {
+        let bits = bits_at(shares, t);
+        conversion::convert_at(
+            &bits,
+            n,
+            q,
+            words,
+            start + t * (n * (n - 1)),
+            work,
+            to + t * n,
+        );
+    }
+}
+
+// The sum modulo q of column i over k rows, from position `start` on.
+fn sum_column(work: &[Word], start: usize, n: usize, k: usize, q: Word, i: usize) -> Wide
+    requires { ⌜ (i < n) × (n ≤ 8) × (k ≤ 16) × Modulus q × Drawn q start (k * n) (now work) ⌝ }
+    ensures { λ r. ⌜ r ≡ sum q k (λ t. at (now (work .entry)) (start + (t * n + i))) ⌝ }
+{
+    let modulus = residue::widen(q);
+    let mut total: Wide = 0;
+    for t in 0..k {
+        total = residue::add(total, residue::widen(work[start + (t * n + i)]), modulus);
+    }
+    total
+}
+
+// Output share i: column i of the k rows of x less column i of the k rows of y behind them.
+fn write_shares(work: &[Word], n: usize, k: usize, q: Word, out: &mut [Word])
+    requires { ⌜ (n ≤ 8) × (k ≤ 16) × Modulus q × Drawn q 0 (workLength n k) (now work) × (n ≤ length (now out)) ⌝ }
+    ensures { λ _. ⌜ now (out .exit) ≡ overwrite (now (out .entry)) 0 (table n (λ i. sub q (sum q k (λ t. at (now (work .entry)) (0 + (t * n + i)))) (sum q k (λ t. at (now (work .entry)) (k * n + (t * n + i)))))) ⌝ }
+{
+    let modulus = residue::widen(q);
+    for i in 0..n {
+        let x = sum_column(work, 0, n, k, q, i);
+        let y = sum_column(work, k * n, n, k, q, i);
+        out[i] = residue::narrow(residue::sub(x, y, modulus), q);
+    }
+}
+
+// The sample. The rows stand in the work area until they are summed, and are then overwritten by zeros.
+fn write_sample(
+    n: usize,
+    k: usize,
+    q: Word,
+    x: &[u16],
+    y: &[u16],
+    words: &[Word],
+    out: &mut [Word],
+    work: &mut [Word],
+)
+    requires { ⌜ (1 ≤ n) × (n ≤ 8) × (k ≤ 16) × Modulus q × (length (now x) ≡ n) × (length (now y) ≡ n) × Drawn q 0 (sampleWords n k) (now words) × (n ≤ length (now out)) × (workLength n k ≤ length (now work)) ⌝ }
+    ensures { λ _. ⌜ (now (out .exit) ≡ overwrite (now (out .entry)) 0 (sampleShares n k q (now (x .entry)) (now (y .entry)) (now (words .entry)))) × (now (work .exit) ≡ overwrite (now (work .entry)) 0 (replicate (workLength n k) 0)) ⌝ }
+{
+    convert_string(x, n, k, q, words, 0, work, 0);
+    convert_string(y, n, k, q, words, k * (n * (n - 1)), work, k * n);
+    write_shares(work, n, k, q, out);
+    buffers::zero(work, 2 * k * n);
+}
+
+fn check_pair(n: usize, k: usize, q: Word, x: &[u16], y: &[u16]) -> Checked
+    ensures { λ r. ⌜ checkedReading r ≡ checked (pairChecks n k q (now (x .entry)) (now (y .entry))) ⌝ }
+{
+    if let Checked::Failed(r) = checks::check_parameters(n, k, q) {
+        return Checked::Failed(r);
+    }
+    if x.len() != n {
+        return checks::refuse(checks::X_COUNT, 0);
+    }
+    if y.len() != n {
+        return checks::refuse(checks::Y_COUNT, 0);
+    }
+    if let Found::At(i) = checks::first_wide(x, k) {
+        return checks::refuse(checks::X_WIDTH, i);
+    }
+    if let Found::At(i) = checks::first_wide(y, k) {
+        return checks::refuse(checks::Y_WIDTH, i);
+    }
+    Checked::Passed
+}
+
+fn check_sample(
+    n: usize,
+    k: usize,
+    q: Word,
+    x: &[u16],
+    y: &[u16],
+    words: &[Word],
+    room: usize,
+    area: usize,
+) -> Checked
+    ensures { λ r. ⌜ checkedReading r ≡ checked (sampleChecks n k q (now (x .entry)) (now (y .entry)) (now (words .entry)) room area) ⌝ }
+{
+    if let Checked::Failed(r) = check_pair(n, k, q, x, y) {
+        return Checked::Failed(r);
+    }
+    if let Checked::Failed(r) = checks::check_words(words, 2 * k, n * (n - 1), q) {
+        return Checked::Failed(r);
+    }
+    if room < n {
+        return checks::refuse(checks::OUTPUT_ROOM, 0);
+    }
+    if area < 2 * k * n {
+        return checks::refuse(checks::WORK_ROOM, 0);
+    }
+    Checked::Passed
+}
+
+// Samples: n shares modulo q of the weight of x less the weight of y. Answers 2kn(n - 1), the number of words it takes from the front of the
+// list. Output positions past n and work positions past 2kn keep their content; the first 2kn work words are zero afterwards.
+// Refuses 1; 2; 3 (q below 2k + 1); 4; 5; 6 and 7 with the share's position; 8; 9 with the word's position; 10; 11.
+pub fn sample(
+    n: usize,
+    k: usize,
+    q: Word,
+    x: &[u16],
+    y: &[u16],
+    words: &[Word],
+    out: &mut [Word],
+    work: &mut [Word],
+) -> Answer
+    ensures { λ r. ⌜ outcome r (both (now (out .exit)) (now (work .exit))) ≡ sampled n k q (now (x .entry)) (now (y .entry)) (now (words .entry)) (now (out .entry)) (now (work .entry)) ⌝ }
+    ensures secrecy { λ _. ⌜ Secrecy n k q ⌝ }
+{
+    if let Checked::Failed(r) = check_sample(n, k, q, x, y, words, out.len(), work.len()) {
+        return Answer::Refused(r);
+    }
+    write_sample(n, k, q, x, y, words, out, work);
+    Answer::Done(2 * k * (n * (n - 1)))
+}
