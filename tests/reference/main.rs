@@ -1,7 +1,7 @@
 //! The calls of document 01, written from the page alone and sharing no code with the library.
 //!
 //! `reference FILE NUMBER..` reads the lines that the demo program printed. For each it takes the call and its inputs, works out the
-//! answer and the output by itself, and compares the whole line. Each NUMBER must have been met as a refusal.
+//! answer, the output and the work area by itself, and compares the whole line. Each NUMBER must have been met as a refusal.
 
 use std::collections::BTreeMap;
 use std::process::exit;
@@ -73,6 +73,19 @@ fn refresh(q: u64, list: &mut [u64], words: &[u64]) {
     }
 }
 
+/// Steps 1, 2 and 3: the n numbers of a shared bit, with its n(n − 1) words at the front of the list.
+fn numbers_of_bit(q: u64, bits: &[u64], words: &[u64]) -> Vec<u64> {
+    let mut list = vec![bits[0]];
+    let mut rest = words;
+    for b in &bits[1..] {
+        let (next, later) = rest.split_at(list.len());
+        list = one_share_more(q, &list, *b, next);
+        rest = later;
+    }
+    refresh(q, &mut list, rest);
+    list
+}
+
 /// One shared bit to n numbers. Like every modulus of the page, q is a 16-bit number.
 fn convert_bit(n: u64, q: u64, bits: &[u64], words: &[u64], out: &mut [u64]) -> Verdict<u64> {
     ask((2..=8).contains(&n), 1, 0)?;
@@ -83,15 +96,7 @@ fn convert_bit(n: u64, q: u64, bits: &[u64], words: &[u64], out: &mut [u64]) -> 
     ask(words.len() as u64 >= count, 8, 0)?;
     ask_all(&words[..count as usize], 9, |r| r < q)?;
     ask(out.len() as u64 >= n, 10, 0)?;
-    let mut list = vec![bits[0]];
-    let mut rest = words;
-    for b in &bits[1..] {
-        let (next, later) = rest.split_at(list.len());
-        list = one_share_more(q, &list, *b, next);
-        rest = later;
-    }
-    refresh(q, &mut list, rest);
-    out[..list.len()].copy_from_slice(&list);
+    out[..n as usize].copy_from_slice(&numbers_of_bit(q, bits, words));
     Ok(count)
 }
 
@@ -132,6 +137,42 @@ fn parameters(n: u64, k: u64, q: u64) -> Verdict<()> {
     ask((2..=8).contains(&n), 1, 0)?;
     ask((1..=16).contains(&k), 2, 0)?;
     ask(q >= 2 * k + 1, 3, 0)
+}
+
+/// The sampler. The strings are the shares of x and the shares of y.
+fn sample(n: u64, k: u64, q: u64, strings: [&[u64]; 2], words: &[u64], out: &mut [u64], work: &mut [u64]) -> Verdict<u64> {
+    let [x, y] = strings;
+    parameters(n, k, q)?;
+    ask(x.len() as u64 == n, 4, 0)?;
+    ask(y.len() as u64 == n, 5, 0)?;
+    ask_all(x, 6, |s| !has_bits_at_or_above(s, k))?;
+    ask_all(y, 7, |s| !has_bits_at_or_above(s, k))?;
+    let count = 2 * k * n * (n - 1);
+    ask(words.len() as u64 >= count, 8, 0)?;
+    ask_all(&words[..count as usize], 9, |r| r < q)?;
+    ask(out.len() as u64 >= n, 10, 0)?;
+    ask(work.len() as u64 >= 2 * k * n, 11, 0)?;
+    let (n, k) = (n as usize, k as usize);
+    for row in 0..2 * k {
+        let (shares, bit) = if row < k { (x, row) } else { (y, row - k) };
+        let bits: Vec<u64> = shares.iter().map(|s| s >> bit & 1).collect();
+        let first = row * n * (n - 1);
+        let numbers = numbers_of_bit(q, &bits, &words[first..first + n * (n - 1)]);
+        work[row * n..(row + 1) * n].copy_from_slice(&numbers);
+    }
+    for (i, share) in out[..n].iter_mut().enumerate() {
+        let x_sum = (0..k).map(|row| work[row * n + i]).sum::<u64>() % q;
+        let y_sum = (k..2 * k).map(|row| work[row * n + i]).sum::<u64>() % q;
+        *share = minus(x_sum, y_sum, q);
+    }
+    work[..2 * k * n].fill(0);
+    Ok(count)
+}
+
+/// The shares add up to the weight of x less the weight of y, modulo q.
+fn adds_up(q: u64, strings: [&[u64]; 2], shares: &[u64]) -> bool {
+    let [x, y] = strings.map(|s| weight(s.iter().fold(0, |a, w| a ^ w)));
+    (shares.iter().sum::<u64>() % q) as i64 == (x - y).rem_euclid(q as i64)
 }
 
 fn parameter_set(number: u64) -> Verdict<(u64, u64)> {
@@ -219,6 +260,13 @@ fn expected(i: &Inputs, met: &mut BTreeMap<u64, usize>) -> String {
             let mut out = i.list("out").to_vec();
             let verdict = convert_bit(i.number("n"), i.number("q"), i.list("bits"), i.list("words"), &mut out);
             ending(verdict, |x| format!(" gives {x}"), met) + " out" + &spaced(&out)
+        }
+        "sample" => {
+            let (n, k, q, strings) = (i.number("n"), i.number("k"), i.number("q"), [i.list("x"), i.list("y")]);
+            let (mut out, mut work) = (i.list("out").to_vec(), i.list("work").to_vec());
+            let verdict = sample(n, k, q, strings, i.list("words"), &mut out, &mut work);
+            assert!(verdict.is_err() || adds_up(q, strings, &out[..n as usize]), "the shares do not add up: {}", i.text());
+            ending(verdict, |x| format!(" gives {x}"), met) + " out" + &spaced(&out) + " work" + &spaced(&work)
         }
         "open_string" => ending(open_string(i.number("n"), i.number("k"), i.list("shares")), |x| format!(" gives {x}"), met),
         "open_residue" => ending(open_residue(i.number("n"), i.number("q"), i.list("shares")), |x| format!(" gives {x}"), met),

@@ -1,9 +1,9 @@
 // Every call on document 01's reference values and on unfit input: a line for each call, with its inputs, its answer and, where it has
-// one, its whole output.
+// them, its whole output and work area.
 mod print;
+mod samples;
 mod table;
 
-use checks::Answer;
 use checks::Checked;
 use masking::OpenedResidue;
 use masking::OpenedString;
@@ -14,20 +14,13 @@ use masking::StringAnswer;
 use residue::Word;
 use table::WORDS;
 
-fn counted(answer: Answer) {
-    match answer {
-        Answer::Done(count) => print::gives(count),
-        Answer::Refused(r) => print::refused(r),
-    }
-}
-
 fn mask(n: usize, k: usize, value: u16, masks: &[u16], out: &mut [u16]) {
     print::field(b"mask n", n);
     print::field(b" k", k);
     print::field(b" value", value as usize);
     print::shares(b" masks", masks);
     print::shares(b" out", out);
-    counted(masking::mask(n, k, OpenedString(value), masks, out));
+    print::counted(masking::mask(n, k, OpenedString(value), masks, out));
     print::shares(b" out", out);
     print::line();
 }
@@ -110,7 +103,7 @@ fn convert_bit(n: usize, q: Word, bits: &[u16], words: &[Word], out: &mut [Word]
     print::shares(b" bits", bits);
     print::words(b" words", words);
     print::words(b" out", out);
-    counted(conversion::convert_bit(n, q, bits, words, out));
+    print::counted(conversion::convert_bit(n, q, bits, words, out));
     print::words(b" out", out);
     print::line();
 }
@@ -180,12 +173,15 @@ fn residues() {
     open_residue(2, 17, &[18, 17]);
 }
 
-// Values f and g.
+// Values f and g, and the residues of the samples a to c.
 fn centred() {
     centre(33, 16);
     centre(33, 17);
     centre(8, 3);
     centre(8, 4);
+    centre(17, 1);
+    centre(17, 16);
+    centre(3, 2);
     centre(65535, 65534);
     centre(2, 1);
     centre(17, 17);
@@ -321,4 +317,5 @@ fn main() {
     unfit_words();
     unfit_outputs();
     unfit_twice();
+    samples::all();
 }

@@ -1,4 +1,5 @@
 // Fields of a line, each with a space before it.
+use checks::Answer;
 use checks::Refusal;
 use libc::STDOUT_FILENO;
 use residue::Word;
@@ -50,4 +51,11 @@ pub fn gives_signed(z: i32) {
 pub fn refused(r: Refusal) {
     field(b" refused", r.code as usize);
     number(r.position);
+}
+
+pub fn counted(answer: Answer) {
+    match answer {
+        Answer::Done(count) => gives(count),
+        Answer::Refused(r) => refused(r),
+    }
 }

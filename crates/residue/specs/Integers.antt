@@ -5,7 +5,7 @@ use native.Mathlib.Nat as N
 use native.Mathlib.Omega.{arith}
 use native.Mathlib.Decide.{decLe}
 use borrow.Author.Tests.{lt-ltb, le-ltb}
-use lib.IntN.{pos, negsuc, _-ℤ_}
+use lib.IntN.{pos, negsuc, natAbs, _-ℤ_}
 use Rattle.residue.specs.Residue.{reduce, neg, sub, reduceℤ}
 use Rattle.residue.specs.Laws.{reduce-plus, reduce-neg, add-reduce-left, neg-reduce, add-assoc, zero-add, add-neg, neg-add, add-sub-cancel}
 
@@ -19,6 +19,16 @@ minus-above a (suc b) h = simp (le-ltb a (suc b) h)
 pub minus-below : (a b : ℕ) → a < b → pos a -ℤ pos b ≡ negsuc (b - suc a)
 minus-below a zero h = absurd (omega arith)
 minus-below a (suc b) h = simp (lt-ltb a (suc b) h)
+
+-- the difference of two numbers of at most k
+pub minus-le : (k a b : ℕ) → a ≤ k → b ≤ k → natAbs (pos a -ℤ pos b) ≤ k
+minus-le k a b h l = go (decLe b a)
+  where
+    go : Dec (b ≤ a) → natAbs (pos a -ℤ pos b) ≤ k
+    go (yes m) = rw (minus-above a b m) (omega arith)
+    go (no m) =
+        let g : a < b = omega arith in
+        rw (minus-below a b g) (omega arith)
 
 -- the difference of two numbers, modulo q
 pub reduceℤ-minus : (q : ℕ) → 0 < q → (a b : ℕ) → reduceℤ q (pos a -ℤ pos b) ≡ sub q a b

@@ -9,7 +9,7 @@ use lib.Arith.{digits-lt}
 use lib.Bits.{bitAnd, and-mask}
 use lib.ListN.{length, set, replicate, length-set, length-append, length-replicate, List·getD-append}
 use lib.Seq.{getD-append-add}
-use Rattle.residue.specs.Residue.{add, sub, sum, EachBelow}
+use Rattle.residue.specs.Residue.{add, sum, EachBelow}
 use Rattle.residue.specs.Laws.{sub-cong}
 use Rattle.residue.specs.Sum.{sum-cong, sum-last, each-below-append}
 use Rattle.buffers.specs.Overwrite.{overwrite}
@@ -22,6 +22,7 @@ use Rattle.conversion.specs.Conversion.{convertBit, bitWords}
 use Rattle.conversion.specs.Laws.{convertBit-local}
 use Rattle.conversion.specs.Arrays.{Holds, Drawn}
 use Rattle.sampler.specs.Sampler.{bitsAt, row, stringShare, sampleShare, sampleShares, sampleWords, workLength}
+use Rattle.sampler.specs.Columns.{columnShare}
 use Rattle.sampler.specs.Laws.{bit-lt}
 
 -- the numbers that the code computes
@@ -43,13 +44,9 @@ small n k h l =
 pub bit-mask : (x t : ℕ) → bitAnd (x / 2 ^ t) 1 ≡ bit x t
 bit-mask x t = and-mask (x / 2 ^ t) 1
 
-module _ (f : ℕ → ℕ) where
-  pub holds-none : Holds 0 f (replicate 8 0)
-  holds-none = record { eight = refl; same = λ i l. absurd (omega arith) }
-
-  pub holds-next : (i v : ℕ) (a : List ℕ) → i < 8 → v ≡ f i → Holds i f a → Holds (i + 1) f (set a i v)
-  holds-next i v a h e H =
-      record { eight = length-set a i v ∙ H .eight; same = λ j l. set-agrees a i v f (omega (arith, H .eight)) e j (λ d. H .same j (omega arith)) }
+pub holds-next : (f : ℕ → ℕ) (i v : ℕ) (a : List ℕ) → i < 8 → v ≡ f i → Holds i f a → Holds (i + 1) f (set a i v)
+holds-next f i v a h e H =
+    record { eight = length-set a i v ∙ H .eight; same = λ j l. set-agrees a i v f (omega (arith, H .eight)) e j (λ d. H .same j (omega arith)) }
 
 -- ---- the row of a bit
 
@@ -143,7 +140,7 @@ module _ (k n : ℕ) (f g : ℕ → ℕ → ℕ) where
 -- the columns of both strings' rows sum to the shares
 pub columns-shares : (n k q : ℕ) (x y words before first work : List ℕ) (e : first ≡ overwrite before 0 (rows k n (row q n (at x) (after 0 (at words)))))
     (d : work ≡ overwrite first (k * n) (rows k n (row q n (at y) (after (k * bitWords n) (at words)))))
-    → table n (λ i. sub q (sum q k (λ t. at work (0 + (t * n + i)))) (sum q k (λ t. at work (k * n + (t * n + i))))) ≡ sampleShares n k q x y words
+    → table n (columnShare q n k (at work)) ≡ sampleShares n k q x y words
 unfolding sampleShares sampleShare stringShare
 columns-shares n k q x y words before first work e d =
     table-same n _ _ (λ i l. sub-cong refl (sum-cong q k _ _ (λ t h. filled-first k n _ _ before first work e d t i h l ∙ ap (λ (w : ℕ → ℕ). row q n (at x) w t i) (after-zero (at words)))) (sum-cong q k _ _ (λ t h. filled-second k n _ _ before first work e d t i h l)))

@@ -30,17 +30,17 @@ module _ (q n : ℕ) (large : 2 < q) where
 
   pub row-lt : (x w : ℕ → ℕ) (t : ℕ) → Below q n (row q n x w t)
   unfolding row
-  row-lt x w t = convertBit-lt q n (bitsAt x t) (after (t * bitWords n) w) (first-lt x t)
+  row-lt x w t = convertBit-lt q n _ _ (first-lt x t)
 
   pub share-lt : (k : ℕ) (x y w : ℕ → ℕ) (i : ℕ) → sampleShare q n k x y w i < q
   unfolding sampleShare
-  share-lt k x y w i = add-lt q positive (stringShare q n k x w i) (neg q (stringShare q n k y (after (k * bitWords n) w) i))
+  share-lt k x y w i = add-lt q positive _ _
 
   -- ---- the words: a string reads its first k × n(n − 1), and a sample its first W
 
   stringShare-local : (k : ℕ) (x w v : ℕ → ℕ) → Same (k * bitWords n) w v → Same n (stringShare q n k x w) (stringShare q n k x v)
   unfolding stringShare row
-  stringShare-local k x w v s i l = sum-cong q k _ _ (λ t h. convertBit-local q n (bitsAt x t) (bitsAt x t) _ _ (first-lt x t) (first-lt x t) (λ j m. refl) (λ j m. s (t * bitWords n + j) (digits-lt h m)) i l)
+  stringShare-local k x w v s i l = sum-cong q k _ _ (λ t h. convertBit-local q n (bitsAt x t) (bitsAt x t) _ _ (first-lt x t) (first-lt x t) (λ j m. refl) (λ j m. s _ (digits-lt h m)) i l)
 
   pub share-local : (k : ℕ) (x y w v : ℕ → ℕ) → Same (sampleWords n k) w v → Same n (sampleShare q n k x y w) (sampleShare q n k x y v)
   unfolding sampleShare

@@ -1,7 +1,9 @@
 pub mod Sampler
 pub mod Secrecy
+pub mod Columns
 pub mod Laws
 pub mod Accepted
 pub mod Calls
+pub mod Opened
 pub mod Translation
 pub mod SecrecyProof

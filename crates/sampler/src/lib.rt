@@ -8,7 +8,6 @@ use residue::Word;
 ghost use mathlib.Core.Path.{_≡_};
 ghost use Prim.Native.Nat.{_+_, _*_, _≤_, _<_};
 ghost use lib.ListN.{length, replicate};
-ghost use Rattle.residue.specs.Residue.{sub, sum};
 ghost use Rattle.buffers.specs.Overwrite.{overwrite};
 ghost use Rattle.buffers.specs.Positions.{at, table, rows, after};
 ghost use Rattle.checks.specs.Checks.{checked};
@@ -16,6 +15,7 @@ ghost use Rattle.checks.specs.Answers.{checkedReading, outcome};
 ghost use Rattle.conversion.specs.Conversion.{bitWords};
 ghost use Rattle.conversion.specs.Arrays.{Holds, Drawn, Modulus};
 ghost use Rattle.sampler.specs.Sampler.{bitsAt, row, sampleWords, sampleShares, workLength, pairChecks, sampleChecks, both, sampled};
+ghost use Rattle.sampler.specs.Columns.{columnSum, columnShare};
 ghost use Rattle.sampler.specs.Secrecy.{Secrecy};
 
 // Bit t of each share.
@@ -61,7 +61,7 @@ fn convert_string(
 // The sum modulo q of column i over k rows, from position `start` on.
 fn sum_column(work: &[Word], start: usize, n: usize, k: usize, q: Word, i: usize) -> Wide
     requires { ⌜ (i < n) × (n ≤ 8) × (k ≤ 16) × Modulus q × Drawn q start (k * n) (now work) ⌝ }
-    ensures { λ r. ⌜ r ≡ sum q k (λ t. at (now (work .entry)) (start + (t * n + i))) ⌝ }
+    ensures { λ r. ⌜ r ≡ columnSum q n k start (at (now (work .entry))) i ⌝ }
 {
     let modulus = residue::widen(q);
     let mut total: Wide = 0;
@@ -74,7 +74,7 @@ fn sum_column(work: &[Word], start: usize, n: usize, k: usize, q: Word, i: usize
 // Output share i: column i of the k rows of x less column i of the k rows of y behind them.
 fn write_shares(work: &[Word], n: usize, k: usize, q: Word, out: &mut [Word])
     requires { ⌜ (n ≤ 8) × (k ≤ 16) × Modulus q × Drawn q 0 (workLength n k) (now work) × (n ≤ length (now out)) ⌝ }
-    ensures { λ _. ⌜ now (out .exit) ≡ overwrite (now (out .entry)) 0 (table n (λ i. sub q (sum q k (λ t. at (now (work .entry)) (0 + (t * n + i)))) (sum q k (λ t. at (now (work .entry)) (k * n + (t * n + i)))))) ⌝ }
+    ensures { λ _. ⌜ now (out .exit) ≡ overwrite (now (out .entry)) 0 (table n (columnShare q n k (at (now (work .entry))))) ⌝ }
 {
     let modulus = residue::widen(q);
     for i in 0..n {
@@ -98,8 +98,9 @@ fn write_sample(
     requires { ⌜ (1 ≤ n) × (n ≤ 8) × (k ≤ 16) × Modulus q × (length (now x) ≡ n) × (length (now y) ≡ n) × Drawn q 0 (sampleWords n k) (now words) × (n ≤ length (now out)) × (workLength n k ≤ length (now work)) ⌝ }
     ensures { λ _. ⌜ (now (out .exit) ≡ overwrite (now (out .entry)) 0 (sampleShares n k q (now (x .entry)) (now (y .entry)) (now (words .entry)))) × (now (work .exit) ≡ overwrite (now (work .entry)) 0 (replicate (workLength n k) 0)) ⌝ }
 {
+    let half = k * (n * (n - 1));
     convert_string(x, n, k, q, words, 0, work, 0);
-    convert_string(y, n, k, q, words, k * (n * (n - 1)), work, k * n);
+    convert_string(y, n, k, q, words, half, work, k * n);
     write_shares(work, n, k, q, out);
     buffers::zero(work, 2 * k * n);
 }

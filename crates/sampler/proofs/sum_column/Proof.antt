@@ -4,16 +4,16 @@ use Prim.Native.Nat.{_+_, _-_, _*_, _≤_, _<_}
 use native.Mathlib.Omega.{arith}
 use lib.Arith.{digits-lt}
 use borrow.Author.Needs.{needs}
-use Rattle.residue.specs.Residue.{sum}
 use Rattle.residue.specs.Laws.{add-cong}
 use Rattle.residue.specs.Sum.{sum-lt}
 use Rattle.buffers.specs.Positions.{at}
+use Rattle.sampler.specs.Columns.{columnSum}
 use Rattle.sampler.proofs.Steps.{sum-none, sum-next, sum-all, column-lt}
 use Rattle.sampler.proofs.sum_column.Statement.{statement}
 use Rattle.sampler.proofs.sum_column.Tie as tie
 
 abbrev Inv-loop : tie.InvT-loop
-Inv-loop work start n k q i modulus total₀ t₀ total t = (t ≤ k) × (total ≡ sum q t (λ t. at work (start + (t * n + i))))
+Inv-loop work start n k q i modulus total₀ t₀ total t = (t ≤ k) × (total ≡ columnSum q n t start (at work) i)
 
 abbrev μ-loop : tie.MeasureT-loop
 μ-loop work start n k q i modulus total₀ t₀ total t = k - t

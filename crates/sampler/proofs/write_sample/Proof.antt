@@ -14,22 +14,22 @@ use Rattle.sampler.proofs.write_sample.Tie as tie
 sizes : (s : tie.Start) → Small (s .args .n) (s .args .k)
 sizes s = small _ _ (s .pre .1) (s .pre .2)
 
+sub-half : tie.Need-sub-half
+sub-half c = search needs
+
+mul-half : tie.Need-mul-half
+mul-half c = omega (arith, sizes (c .before .before .before .before .before))
+
+mul-half-2 : tie.Need-mul-half-2
+mul-half-2 c = omega (arith, c .before .before .before .before .before .pre .6 .room)
+
 convert-string-requires : tie.Need-convert-string-requires
 convert-string-requires c κs =
     let s = c .before .before .before .before .before .before in
     (omega arith, omega arith, omega arith, s .pre .3, s .pre .4, drawn-part 0 0 _ refl (omega arith) (s .pre .6), omega arith)
 
-sub-convert-string : tie.Need-sub-convert-string
-sub-convert-string c = search needs
-
 mul-convert-string : tie.Need-mul-convert-string
-mul-convert-string c = omega (arith, sizes (c .before .before .before .before .before .before .before .before .before))
-
-mul-convert-string-2 : tie.Need-mul-convert-string-2
-mul-convert-string-2 c = omega (arith, c .before .before .before .before .before .before .before .before .before .pre .6 .room)
-
-mul-convert-string-3 : tie.Need-mul-convert-string-3
-mul-convert-string-3 c = search needs
+mul-convert-string c = search needs
 
 convert-string-requires-2 : tie.Need-convert-string-requires-2
 convert-string-requires-2 c κs =
@@ -68,11 +68,11 @@ pub write-sample-spec : {M : Type 1} → statement M
 write-sample-spec =
     tie.close
     (tie.spec
+    sub-half
+    mul-half
+    mul-half-2
     convert-string-requires
-    sub-convert-string
     mul-convert-string
-    mul-convert-string-2
-    mul-convert-string-3
     convert-string-requires-2
     write-shares-requires
     mul-zero

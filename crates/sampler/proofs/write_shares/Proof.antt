@@ -1,21 +1,21 @@
 -- The first i shares stand in the output.
 use mathlib.Core.Path.{_≡_, refl, _∙_}
-use Prim.Native.Nat.{_+_, _-_, _*_, _≤_, _<_}
+use Prim.Native.Nat.{_-_, _*_, _≤_, _<_}
 use native.Mathlib.Omega.{arith}
 use lib.ListN.{length, length-set}
 use borrow.Author.Needs.{needs}
-use Rattle.residue.specs.Residue.{sub, sum}
 use Rattle.residue.specs.Laws.{sub-cong, add-lt}
 use Rattle.residue.specs.Sum.{sum-lt}
 use Rattle.buffers.specs.Overwrite.{overwrite}
 use Rattle.buffers.specs.Positions.{at, table}
 use Rattle.buffers.specs.Rows.{values-none, values-next, values-all}
 use Rattle.conversion.specs.Arrays.{drawn-part}
+use Rattle.sampler.specs.Columns.{columnShare}
 use Rattle.sampler.proofs.write_shares.Statement.{statement}
 use Rattle.sampler.proofs.write_shares.Tie as tie
 
 abbrev Inv-loop : tie.InvT-loop
-Inv-loop work n k q out₀ modulus i₀ out i = (i ≤ n) × (out ≡ overwrite out₀ 0 (table i (λ i. sub q (sum q k (λ t. at work (0 + (t * n + i)))) (sum q k (λ t. at work (k * n + (t * n + i))))))) × (length out ≡ length out₀)
+Inv-loop work n k q out₀ modulus i₀ out i = (i ≤ n) × (out ≡ overwrite out₀ 0 (table i (columnShare q n k (at work)))) × (length out ≡ length out₀)
 
 abbrev μ-loop : tie.MeasureT-loop
 μ-loop work n k q out₀ modulus i₀ out i = n - i

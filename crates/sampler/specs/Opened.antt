@@ -1,0 +1,60 @@
+-- The shares of a sample, opened and centred, give what the plain weight difference of the opened strings gives.
+use mathlib.Core.Path.{_≡_, sym, ap, _∙_}
+use mathlib.Core.List.{List}
+use Prim.Native.Nat.{ℕ, _^_, _<_, _≤_}
+use native.Mathlib.Omega.{arith}
+use lib.ListN.{length, take}
+use borrow.Author.Tests.{le-leb, lt-ltb, eq-eqb}
+use Rattle.residue.specs.Residue.{reduceℤ}
+use Rattle.residue.specs.Integers.{minus-le}
+use Rattle.checks.specs.Checks.{accepted, isNone}
+use Rattle.checks.specs.Laws.{Hold, hold-front, accepts, each-below-none}
+use Rattle.masking.specs.Sharing.{xorAll, openResidueChecks, openedResidue, openStringChecks, openedString}
+use Rattle.masking.specs.Signed.{weight, differenceOfWeights, centred, weightChecks, weightDifference}
+use Rattle.masking.specs.Weight.{weight-le}
+use Rattle.masking.specs.Xor.{xorAll-lt}
+use Rattle.masking.specs.Centring.{centred-sample}
+use Rattle.sampler.specs.Sampler.{sampleShares, pairChecks, bufferChecks, sampleChecks, sampled}
+use Rattle.sampler.specs.Accepted.{SharedPair, call-pair}
+use Rattle.sampler.specs.Calls.{length-shares, shares-below, shares-residue, call-shares}
+
+module _ (n k q : ℕ) (x y words out work : List ℕ) (h : Hold (sampleChecks n k q x y words (length out) (length work))) where
+  pair : SharedPair n k q x y
+  pair = call-pair n k q x y words out work h
+
+  pairs-hold : Hold (pairChecks n k q x y)
+  pairs-hold = hold-front (pairChecks n k q x y) (bufferChecks n k q words (length out) (length work)) h
+
+  -- the two strings open
+  pub x-opened : openedString n k x ≡ accepted (xorAll x)
+  unfolding openedString
+  x-opened = accepts (xorAll x) (openStringChecks n k x) (pairs-hold .0, (pairs-hold .1 .0, (pairs-hold .1 .1 .1 .0, (pairs-hold .1 .1 .1 .1 .1 .0, tt))))
+
+  pub y-opened : openedString n k y ≡ accepted (xorAll y)
+  unfolding openedString
+  y-opened = accepts (xorAll y) (openStringChecks n k y) (pairs-hold .0, (pairs-hold .1 .0, (pairs-hold .1 .1 .1 .1 .0, (pairs-hold .1 .1 .1 .1 .1 .1 .0, tt))))
+
+  x-lt : xorAll x < 2 ^ k
+  x-lt = xorAll-lt k x (pair .x-narrow)
+
+  y-lt : xorAll y < 2 ^ k
+  y-lt = xorAll-lt k y (pair .y-narrow)
+
+  -- their plain weight difference
+  pub plain-difference : weightDifference k (xorAll x) (xorAll y) ≡ accepted (differenceOfWeights (xorAll x) (xorAll y))
+  unfolding weightDifference
+  plain-difference = accepts _ (weightChecks k (xorAll x) (xorAll y)) (pairs-hold .1 .0, (lt-ltb _ _ x-lt, (lt-ltb _ _ y-lt, tt)))
+
+  -- the shares open to its residue
+  pub shares-opened : openedResidue n q (take n (sampled n k q x y words out work .buffers .out)) ≡ accepted (reduceℤ q (differenceOfWeights (xorAll x) (xorAll y)))
+  unfolding openedResidue
+  shares-opened =
+      rw (call-shares n k q x y words out work h)
+      (accepts _ (openResidueChecks n q (sampleShares n k q x y words)) (pairs-hold .0, (le-leb 3 q (omega (arith, pair .one, pair .modulus)), (eq-eqb _ _ (length-shares n k q x y words), (ap isNone (each-below-none q (sampleShares n k q x y words) 0 (shares-below pair words)), tt))))
+      ∙ ap accepted (shares-residue pair words))
+
+  -- which, centred, is the difference
+  pub residue-centred : centred q (reduceℤ q (differenceOfWeights (xorAll x) (xorAll y))) ≡ weightDifference k (xorAll x) (xorAll y)
+  residue-centred =
+      centred-sample k q (pair .modulus) (pair .one) (differenceOfWeights (xorAll x) (xorAll y)) (minus-le k (weight (xorAll x)) (weight (xorAll y)) (weight-le k (xorAll x) (pair .sixteen) x-lt) (weight-le k (xorAll y) (pair .sixteen) y-lt))
+      ∙ sym plain-difference
