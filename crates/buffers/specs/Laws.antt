@@ -53,11 +53,11 @@ unfolding overwrite
 front l s = ap (λ (k : ℕ). s ++ drop k l) (N.zero-add (length s))
 
 module _ (l s : List ℕ) where
-  pub take-front : take (length s) (overwrite l 0 s) ≡ s
-  take-front = ap (take (length s)) (front l s) ∙ take-at s (drop (length s) l) (length s) refl
+  pub take-front : (n : ℕ) → length s ≡ n → take n (overwrite l 0 s) ≡ s
+  take-front n e = ap (take n) (front l s) ∙ take-at s (drop (length s) l) n e
 
-  pub drop-front : drop (length s) (overwrite l 0 s) ≡ drop (length s) l
-  drop-front = ap (drop (length s)) (front l s) ∙ drop-at s (drop (length s) l) (length s) refl
+  pub drop-front : (n : ℕ) → length s ≡ n → drop n (overwrite l 0 s) ≡ drop n l
+  drop-front n e = ap (drop n) (front l s) ∙ drop-at s (drop (length s) l) n e ∙ ap (λ (m : ℕ). drop m l) e
 
   pub front-below : (i : ℕ) → i < length s → getD (overwrite l 0 s) i 0 ≡ getD s i 0
   front-below i h = ap (λ (k : List ℕ). getD k i 0) (front l s) ∙ List·getD-append s (drop (length s) l) 0 i h
@@ -72,4 +72,4 @@ module _ (l s : List ℕ) where
 
   -- another part of the same length in its stead
   pub overwrite-again : (r : List ℕ) → length r ≡ length s → overwrite (overwrite l 0 s) 0 r ≡ overwrite l 0 r
-  overwrite-again r e = front (overwrite l 0 s) r ∙ rw (e, drop-front) (rw (← e) (sym (front l r)))
+  overwrite-again r e = front (overwrite l 0 s) r ∙ ap (λ (t : List ℕ). r ++ t) (drop-front (length r) (sym e)) ∙ sym (front l r)

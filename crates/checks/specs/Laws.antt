@@ -171,6 +171,10 @@ pub settled-answer : {A B : Type 0} (v : Verdict A) (before after : B) → settl
 settled-answer (accepted a) before after = refl
 settled-answer (refused c p) before after = refl
 
+-- a call that passes every check is accepted, and leaves what it wrote
+pub settled-accepted : {A B : Type 0} (a : A) (cs : List Check) (before after : B) → Hold cs → settled (verdict cs a) before after ≡ record { answer = accepted a; buffers = after }
+settled-accepted {A} a cs before after h = ap (λ (v : Verdict A). settled v before after) (accepts a cs h)
+
 -- what an accepted call keeps, every call keeps
 pub settled-keeps : {A B C : Type 0} (v : Verdict A) (before after : B) (view : B → C) → view after ≡ view before → view (settled v before after .buffers) ≡ view before
 settled-keeps (accepted a) before after view e = e
@@ -214,7 +218,7 @@ module _ (cs : List Check) (r : Checked) (e : checkedReading r ≡ checked cs) w
   part-failed ds f p = sym (refuses tt tt (f .code) (f .position) cs ds (sym e ∙ ap checkedReading p))
 
   pub settles-accepted : {A B : Type 0} (a : A) (before after : B) → r ≡ Passed → record { answer = accepted a; buffers = after } ≡ settled (verdict cs a) before after
-  settles-accepted {A} a before after p = ap (λ (v : Verdict A). settled v before after) (sym (checks-passed a p))
+  settles-accepted a before after p = sym (settled-accepted a cs before after (checks-hold p))
 
   pub settles-refused : {A B : Type 0} (a : A) (before after : B) (f : Refusal) → r ≡ Failed f → record { answer = refusalReading f; buffers = before } ≡ settled (verdict cs a) before after
   settles-refused {A} a before after f p = ap (λ (v : Verdict A). settled v before after) (sym (checks-failed a f p))

@@ -12,8 +12,8 @@ use Rattle.buffers.specs.Overwrite.{overwrite}
 use Rattle.buffers.specs.Laws.{take-front, front-below}
 use Rattle.buffers.specs.Positions.{at}
 use Rattle.buffers.specs.PositionLaws.{length-table, table-at, table-same, table-list}
-use Rattle.checks.specs.Checks.{Outcome, Verdict, accepted, settled}
-use Rattle.checks.specs.Laws.{Hold, accepts}
+use Rattle.checks.specs.Checks.{Outcome, accepted}
+use Rattle.checks.specs.Laws.{Hold, settled-accepted}
 use Rattle.masking.specs.Sharing.{xorAll}
 use Rattle.masking.specs.Xor.{xorAll-lt}
 use Rattle.conversion.specs.Conversion.{convertBit, bitWords, bitShares, bitChecks, converted}
@@ -55,13 +55,12 @@ module _ (n q : ℕ) (bits words out : List ℕ) (h : Hold (bitChecks n q bits w
   -- a call that passes every check is accepted, and its shares stand in front
   pub call-accepted : converted n q bits words out ≡ record { answer = accepted (bitWords n); buffers = overwrite out 0 (bitShares n q bits words) }
   unfolding converted
-  call-accepted = ap (λ (v : Verdict ℕ). settled v out (overwrite out 0 (bitShares n q bits words))) (accepts (bitWords n) (bitChecks n q bits words (length out)) h)
+  call-accepted = settled-accepted (bitWords n) (bitChecks n q bits words (length out)) out (overwrite out 0 (bitShares n q bits words)) h
 
   pub call-shares : take n (converted n q bits words out .buffers) ≡ bitShares n q bits words
   call-shares =
       ap (λ (o : Outcome ℕ (List ℕ)). take n (o .buffers)) call-accepted
-      ∙ ap (λ (k : ℕ). take k (overwrite out 0 (bitShares n q bits words))) (sym (length-bitShares n q bits words))
-      ∙ take-front out (bitShares n q bits words)
+      ∙ take-front out (bitShares n q bits words) n (length-bitShares n q bits words)
 
   pub call-share : (i : ℕ) → i < n → at (converted n q bits words out .buffers) i ≡ convertBit q n (at bits) (at words) i
   call-share i l =

@@ -54,7 +54,7 @@ module _ (n k v : ℕ) (masks out : List ℕ) (h : masked n k v masks out .answe
   unfolding masked
   shares =
       ap (λ (r : Verdict ℕ). take n (settled r out (overwrite out 0 (maskShares v masks)) .buffers)) accepted-call
-      ∙ ap (λ (m : ℕ). take m (overwrite out 0 (maskShares v masks))) (sym count) ∙ take-front out (maskShares v masks)
+      ∙ take-front out (maskShares v masks) n count
 
   narrow-shares : EachBelow (2 ^ k) (maskShares v masks)
   narrow-shares = maskShares-narrow v masks k (ltb-true v (2 ^ k) (hold .1 .1 .0)) (none-each-below (2 ^ k) masks 0 (hold .1 .1 .1 .1 .0))

@@ -13,7 +13,7 @@ use Rattle.buffers.specs.Laws.{take-front, drop-front, front-below}
 use Rattle.buffers.specs.Positions.{at}
 use Rattle.buffers.specs.PositionLaws.{length-table, table-at, table-same}
 use Rattle.checks.specs.Checks.{Check, Outcome, Verdict, accepted, verdict, settled}
-use Rattle.checks.specs.Laws.{Hold, accepts, accepted-holds, settled-answer, settled-keeps, settled-same, words-front}
+use Rattle.checks.specs.Laws.{Hold, accepted-holds, settled-accepted, settled-answer, settled-keeps, settled-same, words-front}
 use Rattle.masking.specs.Sharing.{xorAll}
 use Rattle.masking.specs.Signed.{weight, differenceOfWeights}
 use Rattle.sampler.specs.Sampler.{Buffers, both, sampleShare, sampleShares, sampleWords, workLength, pairChecks, roomChecks, sampleChecks, buffersAfter, sampled}
@@ -60,12 +60,12 @@ module _ (n k q : ℕ) (x y words out work : List ℕ) (h : Hold (sampleChecks n
   -- is accepted with W; its shares stand in front of the output, and zeros in front of the work area
   pub call-accepted : sampled n k q x y words out work ≡ record { answer = accepted (sampleWords n k); buffers = buffersAfter n k q x y words out work }
   unfolding sampled
-  call-accepted = ap (λ (v : Verdict ℕ). settled v (both out work) (buffersAfter n k q x y words out work)) (accepts (sampleWords n k) (sampleChecks n k q x y words (length out) (length work)) h)
+  call-accepted = settled-accepted (sampleWords n k) (sampleChecks n k q x y words (length out) (length work)) (both out work) (buffersAfter n k q x y words out work) h
 
   pub call-shares : take n (sampled n k q x y words out work .buffers .out) ≡ sampleShares n k q x y words
   call-shares =
       ap (λ (o : Outcome ℕ Buffers). take n (o .buffers .out)) call-accepted
-      ∙ ap (λ (m : ℕ). take m (overwrite out 0 (sampleShares n k q x y words))) (sym (length-shares n k q x y words)) ∙ take-front out (sampleShares n k q x y words)
+      ∙ take-front out (sampleShares n k q x y words) n (length-shares n k q x y words)
 
   pub call-share : (i : ℕ) → i < n → at (sampled n k q x y words out work .buffers .out) i ≡ sampleShare q n k (at x) (at y) (at words) i
   call-share i l =
@@ -75,7 +75,7 @@ module _ (n k q : ℕ) (x y words out work : List ℕ) (h : Hold (sampleChecks n
   pub call-zeroed : take (workLength n k) (sampled n k q x y words out work .buffers .work) ≡ replicate (workLength n k) 0
   call-zeroed =
       ap (λ (o : Outcome ℕ Buffers). take (workLength n k) (o .buffers .work)) call-accepted
-      ∙ ap (λ (m : ℕ). take m (overwrite work 0 (replicate (workLength n k) 0))) (sym (length-replicate (workLength n k) 0)) ∙ take-front work (replicate (workLength n k) 0)
+      ∙ take-front work (replicate (workLength n k) 0) (workLength n k) (length-replicate (workLength n k) 0)
 
   pub call-samples : Samples n k q x y words (sampled n k q x y words out work)
   call-samples =
@@ -96,15 +96,14 @@ module _ (n k q : ℕ) (x y words out work : List ℕ) where
   unfolding sampled
   out-kept =
       settled-keeps (decided (length out) (length work)) (both out work) (buffersAfter n k q x y words out work) (λ b. drop n (b .out))
-      (ap (λ (m : ℕ). drop m (overwrite out 0 (sampleShares n k q x y words))) (sym (length-shares n k q x y words)) ∙ drop-front out (sampleShares n k q x y words) ∙ ap (λ (m : ℕ). drop m out) (length-shares n k q x y words))
+      (drop-front out (sampleShares n k q x y words) n (length-shares n k q x y words))
 
   -- and work positions past 2kn theirs
   pub work-kept : drop (workLength n k) (sampled n k q x y words out work .buffers .work) ≡ drop (workLength n k) work
   unfolding sampled
   work-kept =
-      let e = length-replicate {A = ℕ} (workLength n k) 0 in
       settled-keeps (decided (length out) (length work)) (both out work) (buffersAfter n k q x y words out work) (λ b. drop (workLength n k) (b .work))
-      (ap (λ (m : ℕ). drop m (overwrite work 0 (replicate (workLength n k) 0))) (sym e) ∙ drop-front work (replicate (workLength n k) 0) ∙ ap (λ (m : ℕ). drop m work) e)
+      (drop-front work (replicate (workLength n k) 0) (workLength n k) (length-replicate (workLength n k) 0))
 
   -- the outcome does not depend on words behind the first W
   pub words-behind : (words′ : List ℕ) → take (sampleWords n k) words ≡ take (sampleWords n k) words′ → sampled n k q x y words out work ≡ sampled n k q x y words′ out work
