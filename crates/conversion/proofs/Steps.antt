@@ -3,13 +3,12 @@ use mathlib.Core.Path.{_≡_, refl, sym, ap, _∙_}
 use mathlib.Core.List.{List}
 use Prim.Native.Nat.{ℕ, zero, suc, _+_, _-_, _*_, _≤_, _<_}
 use native.Mathlib.Nat as N
-use native.Mathlib.Numerals.{add-one}
 use native.Mathlib.Omega.{arith}
 use lib.ListN.{length, set, replicate, length-set}
 use lib.Seq.{getD-set-other}
 use Rattle.residue.specs.Residue.{sub, neg, add, sum}
 use Rattle.residue.specs.Laws.{reduce-small, reduce-lt, zero-add, add-zero, add-comm, add-assoc, reduce-neg, add-lt}
-use Rattle.residue.specs.Sum.{sum-last, sum-lt}
+use Rattle.residue.specs.Sum.{running-none, running-next, running-all, sum-last, sum-lt}
 use Rattle.buffers.specs.Positions.{at, table, after, Same, Below}
 use Rattle.buffers.specs.PositionLaws.{table-same, after-after, set-agrees}
 use Rattle.conversion.specs.Conversion.{pairs, extend, lessTwice, xorBit, xorShare, convert, refresh, convertBit, bitShares}
@@ -56,12 +55,12 @@ module _ (q j bit : ℕ) (A r : ℕ → ℕ) where
 
     pub turned-below : (v z : ℕ) → i < 8 → i < j → v ≡ lessTwice q bit (sub q (A i) (r i)) → z ≡ add q s (r i) → Turned (i + 1) (set c i v) z
     turned-below v z h l e d =
-        let more : z ≡ sum q (i + 1) r = d ∙ rw (T .summed (omega arith), add-one i) (sym (sum-last q i r)) in
+        let more : z ≡ sum q (i + 1) r = running-next q r i s z (T .summed (omega arith)) d in
         record {
           eight = length-set c i v ∙ T .eight;
           done = stored v h (e ∙ ap (lessTwice q bit) (sym (extend-below q j A r i l)));
           summed = λ m. more;
-          all-summed = λ m. more ∙ ap (λ (k : ℕ). sum q k r) (omega arith);
+          all-summed = λ m. running-all q r (i + 1) j z (omega arith) more;
         }
 
     pub turned-at : (v : ℕ) → i < 8 → i ≡ j → v ≡ lessTwice q bit s → Turned (i + 1) (set c i v) s
@@ -89,7 +88,7 @@ module _ (q j bit : ℕ) (A r : ℕ → ℕ) where
         other (suc t) l d = T .done (suc t) (omega arith) (omega arith)
 
   pub turned-none : Turned 0 (replicate 8 0) 0
-  turned-none = record { eight = refl; done = λ t l m. absurd (omega arith); summed = λ m. unfold sum in refl; all-summed = λ m. none (omega arith) }
+  turned-none = record { eight = refl; done = λ t l m. absurd (omega arith); summed = λ m. running-none q r; all-summed = λ m. none (omega arith) }
     where
       none : j ≡ 0 → 0 ≡ sum q j r
       none e = unfold sum in rw e

@@ -5,6 +5,7 @@ use mathlib.Core.Logic.{_≢_}
 use Prim.Native.Nat.{ℕ, zero, suc, _+_, _-_, _<_, suc-le-suc}
 use native.Mathlib.Nat as N
 use native.Mathlib.Decide.{decLt}
+use native.Mathlib.Numerals.{add-one}
 use native.Mathlib.Omega.{arith}
 use lib.ListN.{length, getD, take, drop, length-append, length-take, length-drop, take-append-drop, List·getD-append}
 use lib.Seq.{getD-take, getD-drop, getD-append-add}
@@ -70,6 +71,18 @@ module _ (q : ℕ) where
   unfolding sum
   sum-last zero f = add-comm q (f zero) 0
   sum-last (suc n) f = ap (add q (f zero)) (sum-last n (λ i. f (suc i))) ∙ sym (add-assoc q (f zero) (sum q n (λ i. f (suc i))) (f (suc n)))
+
+  -- a sum that is made term by term
+  module _ (f : ℕ → ℕ) where
+    pub running-none : 0 ≡ sum q 0 f
+    unfolding sum
+    running-none = refl
+
+    pub running-next : (t s v : ℕ) → s ≡ sum q t f → v ≡ add q s (f t) → v ≡ sum q (t + 1) f
+    running-next t s v e d = d ∙ ap (λ (z : ℕ). add q z (f t)) e ∙ sym (sum-last t f) ∙ ap (λ (m : ℕ). sum q m f) (sym (add-one t))
+
+    pub running-all : (t n s : ℕ) → t ≡ n → s ≡ sum q t f → s ≡ sum q n f
+    running-all t n s h e = e ∙ ap (λ (m : ℕ). sum q m f) h
 
   pub sum-zero : (n : ℕ) → sum q n (λ i. 0) ≡ 0
   unfolding sum

@@ -3,15 +3,14 @@ use mathlib.Core.Path.{_≡_, refl, sym, ap, _∙_}
 use mathlib.Core.List.{List, _++_}
 use Prim.Native.Nat.{ℕ, _+_, _-_, _*_, _/_, _^_, _≤_, _<_}
 use native.Mathlib.Nat as N
-use native.Mathlib.Numerals.{add-one}
 use native.Mathlib.Omega.{arith}
 use lib.Arith.{digits-lt}
 use lib.Bits.{bitAnd, and-mask}
 use lib.ListN.{length, set, replicate, length-set, length-append, length-replicate, List·getD-append}
 use lib.Seq.{getD-append-add}
-use Rattle.residue.specs.Residue.{add, sum, EachBelow}
+use Rattle.residue.specs.Residue.{sum, EachBelow}
 use Rattle.residue.specs.Laws.{sub-cong}
-use Rattle.residue.specs.Sum.{sum-cong, sum-last, each-below-append}
+use Rattle.residue.specs.Sum.{sum-cong, each-below-append}
 use Rattle.buffers.specs.Overwrite.{overwrite}
 use Rattle.buffers.specs.Laws.{length-overwrite, overwrite-append, overwrite-again, front-below}
 use Rattle.buffers.specs.Positions.{at, table, rows, after, Below}
@@ -25,7 +24,7 @@ use Rattle.sampler.specs.Sampler.{bitsAt, row, stringShare, sampleShare,
 use Rattle.sampler.specs.Columns.{columnShare}
 use Rattle.sampler.specs.Laws.{bit-lt}
 
--- the numbers that the code computes
+-- the numbers that the code computes are small
 pub record Small (n k : ℕ) : Type 0 where
   pub bits : 2 * k ≤ 32
   pub per : bitWords n ≤ 64
@@ -65,19 +64,6 @@ module _ (q n t : ℕ) (x bits : List ℕ) (large : 2 < q) (H : Holds n (bitsAt 
       let d : bitsAt (at x) t 0 < q = omega (arith, bit-lt (at x 0) t) in
       table-same n _ _ (convertBit-local q n (at bits) (bitsAt (at x) t) _ _ b d (H .same) (λ j l. ap (at words) (omega arith)))
 
--- ---- sums over rows
-
-module _ (q : ℕ) (f : ℕ → ℕ) where
-  pub sum-none : 0 ≡ sum q 0 f
-  unfolding sum
-  sum-none = refl
-
-  pub sum-next : (t s v : ℕ) → s ≡ sum q t f → v ≡ add q s (f t) → v ≡ sum q (t + 1) f
-  sum-next t s v e d = d ∙ ap (λ (z : ℕ). add q z (f t)) e ∙ sym (sum-last q t f) ∙ ap (λ (m : ℕ). sum q m f) (sym (add-one t))
-
-  pub sum-all : (t k s : ℕ) → t ≡ k → s ≡ sum q t f → s ≡ sum q k f
-  sum-all t k s h e = e ∙ ap (λ (m : ℕ). sum q m f) h
-
 -- column i of row t of k rows
 pub column-lt : {q start k n : ℕ} {work : List ℕ} (t i : ℕ) → t < k → i < n → Drawn q start (k * n) work → at work (start + (t * n + i)) < q
 column-lt {n = n} t i h l d = d .below (t * n + i) (digits-lt h l)
@@ -107,7 +93,7 @@ module _ (k n : ℕ) (f g : ℕ → ℕ → ℕ) where
     filled-at : (p : ℕ) → p < workLength n k → at work p ≡ at both-rows p
     filled-at p h = ap (λ (l : List ℕ). at l p) filled ∙ front-below before both-rows p (omega (arith, length-both))
 
-    pub filled-length : workLength n k ≤ length before → length work ≡ length before
+    filled-length : workLength n k ≤ length before → length work ≡ length before
     filled-length h = ap length filled ∙ length-overwrite before 0 both-rows (omega (arith, length-both))
 
     pub filled-drawn : (q : ℕ) → workLength n k ≤ length before → ((t : ℕ) → Below q n (f t)) → ((t : ℕ) → Below q n (g t)) → Drawn q 0 (workLength n k) work
@@ -118,19 +104,19 @@ module _ (k n : ℕ) (f g : ℕ → ℕ → ℕ) where
         }
 
     module _ (t i : ℕ) (h : t < k) (l : i < n) where
-      place : t * n + i < k * n
-      place = digits-lt h l
+      inside : t * n + i < k * n
+      inside = digits-lt h l
 
       pub filled-first : at work (0 + (t * n + i)) ≡ f t i
       unfolding both-rows
       filled-first =
           let z : 0 + (t * n + i) ≡ t * n + i = omega arith in
-          rw z (filled-at (t * n + i) (omega (arith, place)) ∙ List·getD-append (rows k n f) (rows k n g) 0 (t * n + i) (omega (arith, place, length-rows k n f)) ∙ rows-at k n f t i h l)
+          rw z (filled-at (t * n + i) (omega (arith, inside)) ∙ List·getD-append (rows k n f) (rows k n g) 0 (t * n + i) (omega (arith, inside, length-rows k n f)) ∙ rows-at k n f t i h l)
 
       pub filled-second : at work (k * n + (t * n + i)) ≡ g t i
       unfolding both-rows
       filled-second =
-          filled-at (k * n + (t * n + i)) (omega (arith, place)) ∙ rw (← length-rows k n f) (getD-append-add (rows k n f) (rows k n g) (t * n + i) 0) ∙ rows-at k n g t i h l
+          filled-at (k * n + (t * n + i)) (omega (arith, inside)) ∙ rw (← length-rows k n f) (getD-append-add (rows k n f) (rows k n g) (t * n + i) 0) ∙ rows-at k n g t i h l
 
     pub filled-zeroed : overwrite work 0 (replicate (workLength n k) 0) ≡ overwrite before 0 (replicate (workLength n k) 0)
     filled-zeroed =

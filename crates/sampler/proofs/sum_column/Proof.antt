@@ -5,10 +5,10 @@ use native.Mathlib.Omega.{arith}
 use lib.Arith.{digits-lt}
 use borrow.Author.Needs.{needs}
 use Rattle.residue.specs.Laws.{add-cong}
-use Rattle.residue.specs.Sum.{sum-lt}
+use Rattle.residue.specs.Sum.{running-none, running-next, running-all, sum-lt}
 use Rattle.buffers.specs.Positions.{at}
 use Rattle.sampler.specs.Columns.{columnSum}
-use Rattle.sampler.proofs.Steps.{sum-none, sum-next, sum-all, column-lt}
+use Rattle.sampler.proofs.Steps.{column-lt}
 use Rattle.sampler.proofs.sum_column.Statement.{statement}
 use Rattle.sampler.proofs.sum_column.Tie as tie
 
@@ -19,29 +19,29 @@ abbrev μ-loop : tie.MeasureT-loop
 μ-loop work start n k q i modulus total₀ t₀ total t = k - t
 
 -- the row and the column lie in the work area
-place : (c : tie.In-loop Inv-loop μ-loop) → c .before .loop .t * c .before .before .before .before .args .n + c .before .before .before .before .args .i < c .before .before .before .before .args .k * c .before .before .before .before .args .n
-place c = digits-lt (c .loop-test .taken) (c .before .before .before .before .pre .0)
+inside : (c : tie.In-loop Inv-loop μ-loop) → c .before .loop .t * c .before .before .before .before .args .n + c .before .before .before .before .args .i < c .before .before .before .before .args .k * c .before .before .before .before .args .n
+inside c = digits-lt (c .loop-test .taken) (c .before .before .before .before .pre .0)
 
 widen-requires : tie.Need-widen-requires Inv-loop μ-loop
 widen-requires c κs = search needs
 
 loop-holds : tie.Need-loop-holds Inv-loop μ-loop
-loop-holds c = (omega arith, sum-none _ _)
+loop-holds c = (omega arith, running-none _ _)
 
 mul-widen : tie.Need-mul-widen Inv-loop μ-loop
-mul-widen c = omega (arith, place c, c .before .before .before .before .pre .4 .room)
+mul-widen c = omega (arith, inside c, c .before .before .before .before .pre .4 .room)
 
 add-widen : tie.Need-add-widen Inv-loop μ-loop
-add-widen c = omega (arith, place c, c .before .before .before .before .pre .4 .room)
+add-widen c = omega (arith, inside c, c .before .before .before .before .pre .4 .room)
 
 add-widen-2 : tie.Need-add-widen-2 Inv-loop μ-loop
-add-widen-2 c = omega (arith, place c, c .before .before .before .before .pre .4 .room)
+add-widen-2 c = omega (arith, inside c, c .before .before .before .before .pre .4 .room)
 
 mul-widen-2 : tie.Need-mul-widen-2 Inv-loop μ-loop
-mul-widen-2 c = omega (arith, place c, c .before .before .before .before .pre .4 .room)
+mul-widen-2 c = omega (arith, inside c, c .before .before .before .before .pre .4 .room)
 
 shared-slice-read-widen : tie.Need-shared-slice-read-widen Inv-loop μ-loop
-shared-slice-read-widen c = omega (arith, place (c .before), c .before .before .before .before .before .pre .4 .room)
+shared-slice-read-widen c = omega (arith, inside (c .before), c .before .before .before .before .before .pre .4 .room)
 
 widen-requires-2 : tie.Need-widen-requires-2 Inv-loop μ-loop
 widen-requires-2 c κs = search needs
@@ -65,10 +65,10 @@ loop-less c = search needs
 loop-again : tie.Need-loop-again Inv-loop μ-loop
 loop-again c =
     let l = c .before .before .before .before .loop in
-    (omega arith, sum-next _ _ _ _ _ (l .inv .1) (c .add .ensures ∙ add-cong (c .before .before .before .before .before .widen .ensures) refl (c .before .widen2 .ensures)))
+    (omega arith, running-next _ _ _ _ _ (l .inv .1) (c .add .ensures ∙ add-cong (c .before .before .before .before .before .widen .ensures) refl (c .before .widen2 .ensures)))
 
 returns : tie.Need-returns Inv-loop μ-loop
-returns c = sum-all _ _ _ _ _ (omega arith) (c .before .loop .inv .1)
+returns c = running-all _ _ _ _ _ (omega arith) (c .before .loop .inv .1)
 
 pub sum-column-spec : {M : Type 1} → statement M
 sum-column-spec =
