@@ -6,20 +6,20 @@ use native.Mathlib.Nat as N
 use native.Mathlib.Omega.{arith}
 use lib.Arith.{digits-lt}
 use lib.Bits.{bitAnd, and-mask}
-use lib.ListN.{length, set, replicate, length-set, length-append, length-replicate, List·getD-append}
+use lib.ListN.{length, replicate, length-append, length-replicate, List·getD-append}
 use lib.Seq.{getD-append-add}
 use Rattle.residue.specs.Residue.{sum, EachBelow}
 use Rattle.residue.specs.Laws.{sub-cong}
 use Rattle.residue.specs.Sum.{sum-cong, each-below-append}
 use Rattle.buffers.specs.Overwrite.{overwrite}
 use Rattle.buffers.specs.Laws.{length-overwrite, overwrite-append, overwrite-again, front-below}
-use Rattle.buffers.specs.Positions.{at, table, rows, after, Below}
-use Rattle.buffers.specs.PositionLaws.{after-zero, table-same, set-agrees}
+use Rattle.buffers.specs.Positions.{at, table, rows, after, Same, Below}
+use Rattle.buffers.specs.PositionLaws.{after-zero, length-table, table-at, table-same}
 use Rattle.buffers.specs.Rows.{length-rows, rows-at, rows-below}
 use Rattle.checks.specs.Width.{bit}
 use Rattle.conversion.specs.Conversion.{convertBit, bitWords}
 use Rattle.conversion.specs.Laws.{convertBit-local}
-use Rattle.conversion.specs.Arrays.{Holds, Drawn}
+use Rattle.conversion.specs.Arrays.{Drawn}
 use Rattle.sampler.specs.Sampler.{bitsAt, row, stringShare, sampleShare, sampleShares, sampleWords, workLength}
 use Rattle.sampler.specs.Columns.{columnShare}
 use Rattle.sampler.specs.Laws.{bit-lt}
@@ -43,32 +43,31 @@ small n k h l =
 pub bit-mask : (x t : ℕ) → bitAnd (x / 2 ^ t) 1 ≡ bit x t
 bit-mask x t = and-mask (x / 2 ^ t) 1
 
-pub holds-next : (f : ℕ → ℕ) (i v : ℕ) (a : List ℕ) → i < 8 → v ≡ f i → Holds i f a → Holds (i + 1) f (set a i v)
-holds-next f i v a h e H =
-    record { eight = length-set a i v ∙ H .eight; same = λ j l. set-agrees a i v f (omega (arith, H .eight)) e j (λ d. H .same j (omega arith)) }
-
 -- ---- the row of a bit
 
 -- row t of k lies before the end
 pub row-fits : {t k : ℕ} (m : ℕ) → t < k → t * m + m ≤ k * m
 row-fits {t} {k} m h = N.le-trans (N.le-of-eq (sym (N.suc-mul t m))) (N.mul-le-mul-right m h)
 
-module _ (q n t : ℕ) (x bits : List ℕ) (large : 2 < q) (H : Holds n (bitsAt (at x) t) bits) where
+module _ (q n t : ℕ) (x bits : List ℕ) (large : 2 < q) (e : bits ≡ overwrite (replicate 8 0) 0 (table n (bitsAt (at x) t))) where
+  same : Same n (at bits) (bitsAt (at x) t)
+  same i l = ap (λ (a : List ℕ). at a i) e ∙ front-below (replicate 8 0) (table n (bitsAt (at x) t)) i (omega (arith, length-table n (bitsAt (at x) t))) ∙ table-at n (bitsAt (at x) t) i l
+
   pub bits-below : Below 2 n (at bits)
-  bits-below i l = rw (H .same i l) (bit-lt (at x i) t)
+  bits-below i l = rw (same i l) (bit-lt (at x i) t)
 
   pub row-done : (start p : ℕ) (words : List ℕ) → 1 ≤ n → p ≡ start + t * bitWords n → table n (convertBit q n (at bits) (after p (at words))) ≡ table n (row q n (at x) (after start (at words)) t)
   unfolding row
-  row-done start p words h e =
+  row-done start p words h d =
       let b : at bits 0 < q = omega (arith, bits-below 0 h) in
-      let d : bitsAt (at x) t 0 < q = omega (arith, bit-lt (at x 0) t) in
-      table-same n _ _ (convertBit-local q n (at bits) (bitsAt (at x) t) _ _ b d (H .same) (λ j l. ap (at words) (omega arith)))
-
--- column i of row t of k rows
-pub column-lt : {q start k n : ℕ} {work : List ℕ} (t i : ℕ) → t < k → i < n → Drawn q start (k * n) work → at work (start + (t * n + i)) < q
-column-lt {n = n} t i h l d = d .below (t * n + i) (digits-lt h l)
+      let f : bitsAt (at x) t 0 < q = omega (arith, bit-lt (at x 0) t) in
+      table-same n _ _ (convertBit-local q n (at bits) (bitsAt (at x) t) _ _ b f same (λ j l. ap (at words) (omega arith)))
 
 -- ---- the work area with the rows of both strings
+
+-- column i of row t
+pub column-lt : {q start k n : ℕ} {work : List ℕ} (t i : ℕ) → t < k → i < n → Drawn q start (k * n) work → at work (start + (t * n + i)) < q
+column-lt {n = n} t i h l d = d .below (t * n + i) (digits-lt h l)
 
 module _ (k n : ℕ) (f g : ℕ → ℕ → ℕ) where
   both-rows : List ℕ

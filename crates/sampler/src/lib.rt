@@ -13,21 +13,19 @@ ghost use Rattle.buffers.specs.Positions.{at, table, rows, after};
 ghost use Rattle.checks.specs.Checks.{checked};
 ghost use Rattle.checks.specs.Answers.{checkedReading, outcome};
 ghost use Rattle.conversion.specs.Conversion.{bitWords};
-ghost use Rattle.conversion.specs.Arrays.{Holds, Drawn, Modulus};
+ghost use Rattle.conversion.specs.Arrays.{Drawn, Modulus};
 ghost use Rattle.sampler.specs.Sampler.{bitsAt, row, sampleWords, sampleShares, workLength, pairChecks, sampleChecks, both, sampled};
 ghost use Rattle.sampler.specs.Columns.{columnSum, columnShare};
 ghost use Rattle.sampler.specs.Secrecy.{Secrecy};
 
-// Bit t of each share.
-fn bits_at(shares: &[u16], t: usize) -> [u16; 8]
-    requires { ⌜ (length (now shares) ≤ 8) × (t < 16) ⌝ }
-    ensures { λ r. ⌜ Holds (length (now (shares .entry))) (bitsAt (at (now (shares .entry))) t) r ⌝ }
+// Bit t of each share, in front of `bits`.
+fn extract_bits(shares: &[u16], t: usize, bits: &mut [u16])
+    requires { ⌜ (length (now shares) ≤ length (now bits)) × (t < 16) ⌝ }
+    ensures { λ _. ⌜ now (bits .exit) ≡ overwrite (now (bits .entry)) 0 (table (length (now (shares .entry))) (bitsAt (at (now (shares .entry))) t)) ⌝ }
 {
-    let mut bits = [0u16; 8];
     for i in 0..shares.len() {
         bits[i] = (shares[i] >> t) & 1;
     }
-    bits
 }
 
 // The rows of a string's k bits, from position `to` of the work area on. Each bit takes the next n(n - 1) words from `start` on.
@@ -45,7 +43,9 @@ fn convert_string(
     ensures { λ _. ⌜ now (work .exit) ≡ overwrite (now (work .entry)) to (rows k n (row q n (at (now (shares .entry))) (after start (at (now (words .entry)))))) ⌝ }
 {
     for t in 0..k {
-        let bits = bits_at(shares, t);
+        // Filled in place: an array returned by value would be copied right behind its single stores.
+        let mut bits = [0u16; 8];
+        extract_bits(shares, t, &mut bits);
         conversion::convert_at(
             &bits,
             n,

@@ -2,13 +2,13 @@
 use mathlib.Core.Path.{_≡_, refl, _∙_}
 use Prim.Native.Nat.{_+_, _-_, _*_, _≤_}
 use native.Mathlib.Omega.{arith}
-use lib.ListN.{length}
+use lib.ListN.{length, replicate}
 use borrow.Author.Needs.{needs}
 use Rattle.buffers.specs.Overwrite.{overwrite}
-use Rattle.buffers.specs.Positions.{at, rows, after}
+use Rattle.buffers.specs.Positions.{at, table, rows, after}
 use Rattle.buffers.specs.Rows.{rows-none, rows-next, rows-all, rows-length}
 use Rattle.conversion.specs.Conversion.{bitWords}
-use Rattle.conversion.specs.Arrays.{Holds, drawn-part}
+use Rattle.conversion.specs.Arrays.{drawn-part}
 use Rattle.sampler.specs.Sampler.{bitsAt, row}
 use Rattle.sampler.proofs.Steps.{row-fits, bits-below, row-done}
 use Rattle.sampler.proofs.convert_string.Statement.{statement}
@@ -27,44 +27,48 @@ next-words c = omega (arith, row-fits (bitWords (c .before .before .before .befo
 next-row : (c : tie.In-loop Inv-loop μ-loop) → c .before .before .before .before .before .args .to + (c .before .loop .t * c .before .before .before .before .before .args .n + c .before .before .before .before .before .args .n) ≤ length (c .before .before .before .before .before .args .work .now)
 next-row c = omega (arith, row-fits (c .before .before .before .before .before .args .n) (c .loop-test .taken), c .before .before .before .before .before .pre .6)
 
-bits-held : (c : tie.After-bits-at Inv-loop μ-loop) → Holds (c .before .before .before .before .before .before .args .n) (bitsAt (at (c .before .before .before .before .before .before .args .shares .now)) (c .before .before .loop .t)) (c .bits-at .result)
-bits-held c = rw (c .before .before .before .before .before .before .pre .4) at (c .bits-at .ensures)
+-- the bits stand in front of the array
+held : (c : tie.After-extract-bits Inv-loop μ-loop) → c .extract-bits .last .1 .1 .0 ≡ overwrite (replicate 8 0) 0 (table (c .before .before .before .before .before .before .before .args .n) (bitsAt (at (c .before .before .before .before .before .before .before .args .shares .now)) (c .before .before .before .loop .t)))
+held c = rw (c .before .before .before .before .before .before .before .pre .4) at (c .extract-bits .ensures)
 
 loop-holds : tie.Need-loop-holds Inv-loop μ-loop
 loop-holds c = (omega arith, rows-none _ _ _ _)
 
-bits-at-requires : tie.Need-bits-at-requires Inv-loop μ-loop
-bits-at-requires c κs = search needs
+slice-aggregate-extract-bits : tie.Need-slice-aggregate-extract-bits Inv-loop μ-loop
+slice-aggregate-extract-bits c = search needs
+
+extract-bits-requires : tie.Need-extract-bits-requires Inv-loop μ-loop
+extract-bits-requires c κs = search needs
 
 sub-convert-at : tie.Need-sub-convert-at Inv-loop μ-loop
 sub-convert-at c = search needs
 
 mul-convert-at : tie.Need-mul-convert-at Inv-loop μ-loop
-mul-convert-at c = omega (arith, next-words (c .before .before))
+mul-convert-at c = omega (arith, next-words (c .before .before .before .before))
 
 mul-convert-at-2 : tie.Need-mul-convert-at-2 Inv-loop μ-loop
-mul-convert-at-2 c = omega (arith, next-words (c .before .before))
+mul-convert-at-2 c = omega (arith, next-words (c .before .before .before .before))
 
 add-convert-at : tie.Need-add-convert-at Inv-loop μ-loop
-add-convert-at c = omega (arith, next-words (c .before .before))
+add-convert-at c = omega (arith, next-words (c .before .before .before .before))
 
 mul-convert-at-3 : tie.Need-mul-convert-at-3 Inv-loop μ-loop
-mul-convert-at-3 c = omega (arith, next-row (c .before .before .before))
+mul-convert-at-3 c = omega (arith, next-row (c .before .before .before .before .before))
 
 add-convert-at-2 : tie.Need-add-convert-at-2 Inv-loop μ-loop
-add-convert-at-2 c = omega (arith, next-row (c .before .before .before))
+add-convert-at-2 c = omega (arith, next-row (c .before .before .before .before .before))
 
 convert-at-requires : tie.Need-convert-at-requires Inv-loop μ-loop
 convert-at-requires c κs =
-    let s = c .before .before .before .before .before .before .before .before in
-    let l = c .before .before .before .before .loop in
+    let s = c .before .before .before .before .before .before .before .before .before .before in
+    let l = c .before .before .before .before .before .before .loop in
     let q = s .pre .3 in
-    let d = next-row (c .before .before .before) in (
+    let d = next-row (c .before .before .before .before .before) in (
       omega arith,
       omega arith,
       q,
-      bits-below _ _ (l .t) (s .args .shares .now) _ (q .large) (bits-held (c .before .before)),
-      drawn-part _ (l .t * bitWords (s .args .n)) _ refl (row-fits (bitWords (s .args .n)) (c .before .before .before .loop-test .taken)) (s .pre .5),
+      bits-below _ _ (l .t) (s .args .shares .now) _ (q .large) (held (c .before .before .before)),
+      drawn-part _ (l .t * bitWords (s .args .n)) _ refl (row-fits (bitWords (s .args .n)) (c .before .before .before .before .before .loop-test .taken)) (s .pre .5),
       omega (arith, rows-length _ _ _ _ _ _ (l .inv .1) (omega arith)),
     )
 
@@ -76,10 +80,10 @@ loop-less c = search needs
 
 loop-again : tie.Need-loop-again Inv-loop μ-loop
 loop-again c =
-    let s = c .before .before .before .before .before .before .before .before .before .before .before in
-    let l = c .before .before .before .before .before .before .before .loop in
-    let e = row-done _ _ (l .t) (s .args .shares .now) _ (s .pre .3 .large) (bits-held (c .before .before .before .before .before)) (s .args .start) _ (s .args .words .now) (omega arith) refl in
-    (omega arith, c .before .before .convert-at .ensures ∙ rows-next _ _ _ _ _ _ _ (l .inv .1) e (omega (arith, next-row (c .before .before .before .before .before .before))))
+    let s = c .before .before .before .before .before .before .before .before .before .before .before .before .before in
+    let l = c .before .before .before .before .before .before .before .before .before .loop in
+    let e = row-done _ _ (l .t) (s .args .shares .now) _ (s .pre .3 .large) (held (c .before .before .before .before .before .before)) (s .args .start) _ (s .args .words .now) (omega arith) refl in
+    (omega arith, c .before .before .convert-at .ensures ∙ rows-next _ _ _ _ _ _ _ (l .inv .1) e (omega (arith, next-row (c .before .before .before .before .before .before .before .before))))
 
 same-length : tie.Need-same-length Inv-loop μ-loop
 same-length c =
@@ -96,7 +100,8 @@ convert-string-spec =
     Inv-loop
     μ-loop
     loop-holds
-    bits-at-requires
+    slice-aggregate-extract-bits
+    extract-bits-requires
     sub-convert-at
     mul-convert-at
     mul-convert-at-2

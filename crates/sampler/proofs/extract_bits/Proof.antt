@@ -1,24 +1,25 @@
--- The first i bits stand in the array.
-use mathlib.Core.Path.{_≡_, refl}
+-- The first i bits stand in front.
+use mathlib.Core.Path.{_≡_, refl, _∙_}
 use Prim.Native.Nat.{_-_, _≤_}
 use native.Mathlib.Omega.{arith}
-use lib.ListN.{length}
+use lib.ListN.{length, length-set}
 use borrow.Author.Needs.{needs}
-use Rattle.buffers.specs.Positions.{at}
-use Rattle.conversion.specs.Arrays.{Holds}
+use Rattle.buffers.specs.Overwrite.{overwrite}
+use Rattle.buffers.specs.Positions.{at, table}
+use Rattle.buffers.specs.Rows.{values-none, values-next, values-all}
 use Rattle.sampler.specs.Sampler.{bitsAt}
-use Rattle.sampler.proofs.Steps.{bit-mask, holds-next}
-use Rattle.sampler.proofs.bits_at.Statement.{statement}
-use Rattle.sampler.proofs.bits_at.Tie as tie
+use Rattle.sampler.proofs.Steps.{bit-mask}
+use Rattle.sampler.proofs.extract_bits.Statement.{statement}
+use Rattle.sampler.proofs.extract_bits.Tie as tie
 
 abbrev Inv-loop : tie.InvT-loop
-Inv-loop shares t bits₀ i₀ i-end bits i = (i ≤ i-end) × (i-end ≡ length shares) × Holds i (bitsAt (at shares) t) bits
+Inv-loop shares t bits₀ i₀ i-end bits i = (i ≤ i-end) × (i-end ≡ length shares) × (bits ≡ overwrite bits₀ 0 (table i (bitsAt (at shares) t))) × (length bits ≡ length bits₀)
 
 abbrev μ-loop : tie.MeasureT-loop
 μ-loop shares t bits₀ i₀ i-end bits i = i-end - i
 
 loop-holds : tie.Need-loop-holds Inv-loop μ-loop
-loop-holds c = search needs
+loop-holds c = (omega arith, refl, values-none _ _, refl)
 
 mul-bits : tie.Need-mul-bits Inv-loop μ-loop
 mul-bits c = search needs
@@ -35,8 +36,8 @@ shr-bits c = search needs
 mul-bits-2 : tie.Need-mul-bits-2 Inv-loop μ-loop
 mul-bits-2 c = search needs
 
-array-write-bits : tie.Need-array-write-bits Inv-loop μ-loop
-array-write-bits c = search needs
+slice-write-bits : tie.Need-slice-write-bits Inv-loop μ-loop
+slice-write-bits c = search needs
 
 add-i : tie.Need-add-i Inv-loop μ-loop
 add-i c = search needs
@@ -48,15 +49,16 @@ loop-again : tie.Need-loop-again Inv-loop μ-loop
 loop-again c =
     let s = c .before .before .before .args in
     let l = c .before .before .loop in
-    (omega arith, refl, holds-next _ _ _ _ (omega arith) (bit-mask (at (s .shares .now) (l .i)) (s .t)) (l .inv .2))
+    (omega arith, refl, values-next _ _ _ _ _ (l .inv .2) (bit-mask (at (s .shares .now) (l .i)) (s .t)) (omega arith), length-set (l .bits) (l .i) _ ∙ l .inv .3)
+
+same-length : tie.Need-same-length Inv-loop μ-loop
+same-length c = search needs
 
 returns : tie.Need-returns Inv-loop μ-loop
-returns c =
-    let e : c .before .loop .i ≡ length (c .before .before .args .shares .now) = omega arith in
-    rw e at (c .before .loop .inv .2)
+returns c = values-all _ _ _ _ _ (omega arith) (c .before .loop .inv .2)
 
-pub bits-at-spec : {M : Type 1} → statement M
-bits-at-spec =
+pub extract-bits-spec : {M : Type 1} → statement M
+extract-bits-spec =
     tie.close
     (tie.spec
     Inv-loop
@@ -67,8 +69,9 @@ bits-at-spec =
     cast-bits
     shr-bits
     mul-bits-2
-    array-write-bits
+    slice-write-bits
     add-i
     loop-less
     loop-again
+    same-length
     returns)
