@@ -10,7 +10,8 @@ use native.Mathlib.Omega.{arith}
 use borrow.Author.Tests.{lt-ltb, le-ltb}
 use lib.ListN.{length, set, List·getD-eq-default}
 use lib.Seq.{getD-set-same, getD-set-other}
-use Rattle.buffers.specs.Positions.{at, table, after, join, Same}
+use Rattle.residue.specs.Residue.{EachBelow}
+use Rattle.buffers.specs.Positions.{at, table, after, join, Same, Below}
 
 pub after-zero : (f : ℕ → ℕ) → after 0 f ≡ f
 after-zero f = fun-ext (λ i. ap f (N.zero-add i))
@@ -39,6 +40,11 @@ unfolding table
 table-at zero f i h = absurd (not-suc-le-zero h)
 table-at (suc n) f zero h = refl
 table-at (suc n) f (suc i) h = table-at n (λ i. f (suc i)) i (le-of-suc-le-suc h)
+
+pub table-below : (q n : ℕ) (f : ℕ → ℕ) → Below q n f → EachBelow q (table n f)
+table-below q n f h i l =
+    let m = length-table n f in
+    rw (table-at n f i (omega arith)) (h i (omega arith))
 
 pub table-same : (n : ℕ) (f g : ℕ → ℕ) → Same n f g → table n f ≡ table n g
 unfolding table

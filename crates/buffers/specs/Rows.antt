@@ -13,7 +13,7 @@ use Rattle.residue.specs.Sum.{each-below-append}
 use Rattle.buffers.specs.Overwrite.{overwrite}
 use Rattle.buffers.specs.Laws.{length-overwrite, overwrite-none, overwrite-append, front-snoc}
 use Rattle.buffers.specs.Positions.{at, table, rows, Below}
-use Rattle.buffers.specs.PositionLaws.{length-table, table-at, table-last}
+use Rattle.buffers.specs.PositionLaws.{length-table, table-at, table-below, table-last}
 
 -- ---- value after value
 
@@ -59,7 +59,7 @@ pub rows-below : (q k n : ℕ) (f : ℕ → ℕ → ℕ) → ((t : ℕ) → t < 
 unfolding rows
 rows-below q zero n f h = λ i l. absurd (not-suc-le-zero l)
 rows-below q (suc k) n f h =
-    each-below-append q (table n (f zero)) (rows k n (λ t. f (suc t))) (λ i l. let m = length-table n (f zero) in rw (table-at n (f zero) i (omega arith)) (h zero (omega arith) i (omega arith)))
+    each-below-append q (table n (f zero)) (rows k n (λ t. f (suc t))) (table-below q n (f zero) (h zero (omega arith)))
     (rows-below q k n (λ t. f (suc t)) (λ t l. h (suc t) (suc-le-suc l)))
 
 module _ (l : List ℕ) (start n : ℕ) (f : ℕ → ℕ → ℕ) where

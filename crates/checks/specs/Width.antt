@@ -10,6 +10,9 @@ use lib.Pow.{pow-mono, pow-pos, shr-shr}
 abbrev pub bit : ℕ → ℕ → ℕ
 bit x i = x / 2 ^ i % 2
 
+pub bit-lt : (x i : ℕ) → bit x i < 2
+bit-lt x i = omega arith
+
 -- bit i of what is left when the j lowest bits are dropped
 pub bit-shift : (x j i : ℕ) → bit (x / 2 ^ j) i ≡ bit x (j + i)
 bit-shift x j i = ap (λ (m : ℕ). m % 2) (shr-shr x j i)

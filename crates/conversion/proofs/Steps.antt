@@ -133,7 +133,7 @@ module _ (q : ℕ) (w : ℕ → ℕ) where
   -- Share i has taken the words from o on with the shares before j, which have lost theirs.
   pub record Paired (i o : ℕ) (b : List ℕ) (j p : ℕ) (a : List ℕ) (own : ℕ) : Type 0 where
     pub eight : length a ≡ 8
-    pub place : p + (i + 1) ≡ o + j
+    pub position : p + (i + 1) ≡ o + j
     pub gained : own ≡ add q (at b i) (sum q (j - (i + 1)) (after o w))
     pub lost : (t : ℕ) → i < t → t < j → at a t ≡ sub q (at b t) (w (o + (t - (i + 1))))
     pub kept : (t : ℕ) → j ≤ t → at a t ≡ at b t
@@ -161,7 +161,7 @@ module _ (q : ℕ) (w : ℕ → ℕ) where
         let z : i + 1 - (i + 1) ≡ 0 = omega arith in
         record {
           eight = L .eight;
-          place = refl;
+          position = refl;
           gained = sym (rw z (unfold sum in add-zero q (at b i)) ∙ reduce-small q own-lt);
           lost = λ t l m. absurd (omega arith);
           kept = λ t l. refl;
@@ -170,11 +170,11 @@ module _ (q : ℕ) (w : ℕ → ℕ) where
     module _ (j p : ℕ) (a : List ℕ) (own : ℕ) (P : Paired i o b j p a own) (l : i < j) where
       pub paired-next : (v z : ℕ) → j < 8 → z ≡ add q own (w p) → v ≡ sub q (at a j) (w p) → Paired i o b (j + 1) (p + 1) (set a j v) z
       paired-next v z m e d =
-          let k : p ≡ o + (j - (i + 1)) = omega (arith, P .place) in
+          let k : p ≡ o + (j - (i + 1)) = omega (arith, P .position) in
           let f : j + 1 - (i + 1) ≡ suc (j - (i + 1)) = omega arith in
           record {
             eight = length-set a j v ∙ P .eight;
-            place = omega (arith, P .place);
+            position = omega (arith, P .position);
             gained = e ∙ rw (P .gained, f, k, add-assoc) (ap (add q (at b i)) (sym (sum-last q (j - (i + 1)) (after o w))));
             lost = λ t x y. set-agrees a j v (λ t. sub q (at b t) (w (o + (t - (i + 1))))) (omega (arith, P .eight)) (d ∙ rw (P .kept j (omega arith), k)) t (λ c. P .lost t x (omega arith));
             kept = λ t x. getD-set-other a j t v 0 (omega arith) ∙ P .kept t (omega arith);
@@ -218,5 +218,5 @@ module _ (q : ℕ) (w : ℕ → ℕ) where
             next : (t : ℕ) → t < n - (i + 1) → T (i + 1 + t) ≡ add q (at a (i + 1 + t)) (zeroSharing q (n - (i + 1)) (after p w) t)
             next t m =
                 let e : i + 1 + t ≡ i + suc t = omega arith in
-                let k : p ≡ o + (n - (i + 1)) = omega (arith, P .place) in
+                let k : p ≡ o + (n - (i + 1)) = omega (arith, P .position) in
                 rw (loss t m, e, k) (L .wanted (suc t) (omega arith) ∙ rw (whole, after-after o (n - (i + 1)) w) (regroup (at b (i + suc t)) _ (neg q (w (o + t)))))

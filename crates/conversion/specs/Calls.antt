@@ -11,7 +11,7 @@ use Rattle.residue.specs.Sum.{sum-cong, sum-list}
 use Rattle.buffers.specs.Overwrite.{overwrite}
 use Rattle.buffers.specs.Laws.{take-front, front-below}
 use Rattle.buffers.specs.Positions.{at}
-use Rattle.buffers.specs.PositionLaws.{length-table, table-at, table-same, table-list}
+use Rattle.buffers.specs.PositionLaws.{length-table, table-at, table-below, table-same, table-list}
 use Rattle.checks.specs.Checks.{Outcome, accepted}
 use Rattle.checks.specs.Laws.{Hold, settled-accepted}
 use Rattle.masking.specs.Sharing.{xorAll}
@@ -32,9 +32,8 @@ bitShares-at n q bits words = table-at n (convertBit q n (at bits) (at words))
 module _ {n q : ℕ} {bits : List ℕ} (S : SharedBit n q bits) (words : List ℕ) where
   -- every share is below q
   pub shares-below : EachBelow q (bitShares n q bits words)
-  shares-below i l =
-      let h : i < n = omega (arith, length-bitShares n q bits words) in
-      rw (bitShares-at n q bits words i h) (convertBit-lt q n (at bits) (at words) (first-lt S) i h)
+  unfolding bitShares
+  shares-below = table-below q n _ (convertBit-lt q n (at bits) (at words) (first-lt S))
 
   -- the shares' residue is the bit
   pub shares-residue : reduce q (total (bitShares n q bits words)) ≡ xorAll bits

@@ -69,7 +69,7 @@ module _ (q : ℕ) where
 
 -- ---- the call
 
--- the words that one bit takes
+-- how many words a bit takes
 abbrev pub bitWords : ℕ → ℕ
 bitWords n = n * (n - 1)
 

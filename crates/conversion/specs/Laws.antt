@@ -9,7 +9,7 @@ use Rattle.residue.specs.Residue.{reduce, add, neg, sub, sum}
 use Rattle.residue.specs.Laws.{reduce-small, reduce-zero, reduce-reduce, reduce-add, reduce-neg, reduce-plus, add-reduce-left, neg-reduce, add-comm, add-assoc, add-left-comm, add-zero, zero-add, add-lt, add-neg, neg-zero, neg-add}
 use Rattle.residue.specs.Sum.{sum-cong, reduce-sum, sum-reduce, sum-last, sum-add, sum-neg}
 use Rattle.buffers.specs.Positions.{table, after, Same, Below}
-use Rattle.buffers.specs.PositionLaws.{length-table, table-at, table-last}
+use Rattle.buffers.specs.PositionLaws.{table-below, table-last}
 use Rattle.masking.specs.Sharing.{xorAll}
 use Rattle.masking.specs.Xor.{xorAll-append, xorAll-one, xorAll-lt}
 use Rattle.conversion.specs.Conversion.{pairs, extend, lessTwice, xorBit, xorShare, convert, convertBit, bitWords}
@@ -127,7 +127,7 @@ module _ (q : ℕ) where
     xorBit-sum j p (suc (suc c)) B h l e = absurd (omega arith)
 
     bits-xor : (n : ℕ) (b : ℕ → ℕ) → Below 2 n b → xorAll (table n b) < 2
-    bits-xor n b h = xorAll-lt 1 (table n b) (λ i l. let m = length-table n b in rw (table-at n b i (omega arith)) (h i (omega arith)))
+    bits-xor n b h = xorAll-lt 1 (table n b) (table-below 2 n b h)
 
     convert-sum : (n : ℕ) (b w : ℕ → ℕ) → Below 2 n b → sum q n (convert q n b w) ≡ reduce q (xorAll (table n b))
     unfolding convert xorShare

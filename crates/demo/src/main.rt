@@ -160,6 +160,7 @@ fn strings() {
 fn residues() {
     open_residue(2, 17, &[7, 11]);
     open_residue(2, 17, &[7, 9]);
+    open_residue(2, 3, &[2, 0]);
     open_residue(3, 17, &[12, 4, 1]);
     open_residue(
         8,

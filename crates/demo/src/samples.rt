@@ -27,7 +27,7 @@ fn sample(
     print::line();
 }
 
-// With more room than is needed.
+// With an output of nine positions and a work area of twenty.
 fn sample_in(n: usize, k: usize, q: Word, x: &[u16], y: &[u16], words: &[Word]) {
     let mut out: [Word; 9] = [65535; 9];
     let mut work: [Word; 20] = [4660; 20];
@@ -97,7 +97,7 @@ fn extremes() {
     sample_in(2, 1, 65535, &[1, 1], &[0, 1], &[65534, 65534, 65534, 65534]);
 }
 
-// Value j.
+// Values j and h, and the largest n and k.
 fn unfit_sizes() {
     let words: [Word; 4] = [5, 3, 10, 16];
     sample_in(1, 1, 17, &[1], &[1], &words);
@@ -107,13 +107,15 @@ fn unfit_sizes() {
     sample_in(2, 1, 17, &[2, 0], &[1, 1], &words);
     sample_in(2, 1, 17, &[1, 0], &[1, 1], &words[..3]);
     sample_in(1, 0, 17, &[1, 0], &[1, 1], &words);
+    sample_in(2, 1, 2, &[1, 0], &[1, 1], &words);
+    sample_in(2, 16, 32, &[1, 0], &[1, 1], &words);
+    sample_in(2, 16, 33, &[1, 0], &[1, 1], &words);
     sample_in(18446744073709551615, 1, 17, &[1, 0], &[1, 1], &words);
     sample_in(2, 18446744073709551615, 17, &[1, 0], &[1, 1], &words);
 }
 
 fn unfit_lists() {
     let words: [Word; 4] = [5, 3, 10, 16];
-    sample_in(2, 1, 2, &[1, 0], &[1, 1], &words);
     sample_in(2, 1, 17, &[1], &[1, 1], &words);
     sample_in(2, 1, 17, &[1, 0, 0], &[1, 1], &words);
     sample_in(2, 1, 17, &[1, 0], &[1], &words);
@@ -123,7 +125,7 @@ fn unfit_lists() {
     sample_in(2, 1, 17, &[1, 0], &[3, 2], &words);
 }
 
-// Value i, and words that are unfit elsewhere.
+// Value i, words that are unfit elsewhere, and none at all.
 fn unfit_words() {
     sample_tight(&[5, 3, 17, 16]);
     sample_tight(&[17, 3, 10, 17]);

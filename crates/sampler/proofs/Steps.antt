@@ -8,7 +8,7 @@ use lib.Arith.{digits-lt}
 use lib.Bits.{bitAnd, and-mask}
 use lib.ListN.{length, replicate, length-append, length-replicate, List·getD-append}
 use lib.Seq.{getD-append-add}
-use Rattle.residue.specs.Residue.{sum, EachBelow}
+use Rattle.residue.specs.Residue.{EachBelow}
 use Rattle.residue.specs.Laws.{sub-cong}
 use Rattle.residue.specs.Sum.{sum-cong, each-below-append}
 use Rattle.buffers.specs.Overwrite.{overwrite}
@@ -16,13 +16,12 @@ use Rattle.buffers.specs.Laws.{length-overwrite, overwrite-append, overwrite-ag
 use Rattle.buffers.specs.Positions.{at, table, rows, after, Same, Below}
 use Rattle.buffers.specs.PositionLaws.{after-zero, length-table, table-at, table-same}
 use Rattle.buffers.specs.Rows.{length-rows, rows-at, rows-below}
-use Rattle.checks.specs.Width.{bit}
+use Rattle.checks.specs.Width.{bit, bit-lt}
 use Rattle.conversion.specs.Conversion.{convertBit, bitWords}
 use Rattle.conversion.specs.Laws.{convertBit-local}
 use Rattle.conversion.specs.Arrays.{Drawn}
 use Rattle.sampler.specs.Sampler.{bitsAt, row, stringShare, sampleShare, sampleShares, sampleWords, workLength}
 use Rattle.sampler.specs.Columns.{columnShare}
-use Rattle.sampler.specs.Laws.{bit-lt}
 
 -- the numbers that the code computes are small
 pub record Small (n k : ℕ) : Type 0 where

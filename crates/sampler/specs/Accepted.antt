@@ -1,7 +1,8 @@
 -- What it means, in plain facts, that a call passes its checks.
 use mathlib.Core.Path.{_≡_}
 use mathlib.Core.List.{List}
-use Prim.Native.Nat.{ℕ, _+_, _*_, _^_, _≤_}
+use Prim.Native.Nat.{ℕ, _+_, _*_, _^_, _≤_, _<_}
+use native.Mathlib.Omega.{arith}
 use borrow.Author.Tests.{leb-true, le-leb, eqb-true}
 use lib.ListN.{length}
 use Rattle.residue.specs.Residue.{EachBelow}
@@ -22,6 +23,9 @@ pub record SharedPair (n k q : ℕ) (x y : List ℕ) : Type 0 where
   pub y-count : length y ≡ n
   pub x-narrow : EachBelow (2 ^ k) x
   pub y-narrow : EachBelow (2 ^ k) y
+
+pub pair-large : {n k q : ℕ} {x y : List ℕ} → SharedPair n k q x y → 2 < q
+pair-large P = omega (arith, P .one, P .modulus)
 
 module _ (n k q : ℕ) (x y : List ℕ) where
   pub shared-pair : Hold (pairChecks n k q x y) → SharedPair n k q x y

@@ -11,7 +11,7 @@ use Rattle.residue.specs.Sum.{sum-cong, sum-list}
 use Rattle.buffers.specs.Overwrite.{overwrite}
 use Rattle.buffers.specs.Laws.{take-front, drop-front, front-below}
 use Rattle.buffers.specs.Positions.{at}
-use Rattle.buffers.specs.PositionLaws.{length-table, table-at, table-same}
+use Rattle.buffers.specs.PositionLaws.{length-table, table-at, table-below, table-same}
 use Rattle.checks.specs.Checks.{Check, Outcome, Verdict, accepted, verdict, settled}
 use Rattle.checks.specs.Laws.{Hold, accepted-holds, settled-accepted, settled-answer, settled-keeps, settled-same, words-front}
 use Rattle.masking.specs.Sharing.{xorAll}
@@ -19,7 +19,7 @@ use Rattle.masking.specs.Signed.{weight, differenceOfWeights}
 use Rattle.sampler.specs.Sampler.{Buffers, both, sampleShare, sampleShares, sampleWords, workLength, pairChecks, roomChecks, sampleChecks, buffersAfter, sampled}
 use Rattle.sampler.specs.Secrecy.{Samples}
 use Rattle.sampler.specs.Laws.{share-lt, share-local, share-sum}
-use Rattle.sampler.specs.Accepted.{SharedPair, call-pair}
+use Rattle.sampler.specs.Accepted.{SharedPair, pair-large, call-pair}
 
 pub length-shares : (n k q : ℕ) (x y words : List ℕ) → length (sampleShares n k q x y words) ≡ n
 unfolding sampleShares
@@ -32,27 +32,25 @@ shares-at n k q x y words = table-at n (sampleShare q n k (at x) (at y) (at word
 -- ---- the written steps, on strings that pass their checks
 
 module _ {n k q : ℕ} {x y : List ℕ} (P : SharedPair n k q x y) (words : List ℕ) where
-  large : 2 < q
-  large = omega (arith, P .one, P .modulus)
-
   -- every share is below q
   pub shares-below : EachBelow q (sampleShares n k q x y words)
-  shares-below i l = rw (shares-at n k q x y words i (omega (arith, length-shares n k q x y words))) (share-lt q n large k (at x) (at y) (at words) i)
+  unfolding sampleShares
+  shares-below = table-below q n _ (λ i l. share-lt q n (pair-large P) k (at x) (at y) (at words) i)
 
   -- the shares' residue is the weight of x less the weight of y, modulo q
   pub shares-residue : reduce q (total (sampleShares n k q x y words)) ≡ reduceℤ q (differenceOfWeights (xorAll x) (xorAll y))
   shares-residue =
       let e = length-shares n k q x y words in
-      let z : 0 < q = omega (arith, large) in
+      let z : 0 < q = omega (arith, pair-large P) in
       sym (sum-list q (sampleShares n k q x y words)) ∙ rw e (sum-cong q n _ _ (shares-at n k q x y words))
-      ∙ share-sum q n large k (P .sixteen) x y (at words) (P .x-count) (P .y-count) (P .x-narrow) (P .y-narrow)
+      ∙ share-sum q n (pair-large P) k (P .sixteen) x y (at words) (P .x-count) (P .y-count) (P .x-narrow) (P .y-narrow)
       ∙ sym (reduceℤ-minus q z (weight (xorAll x)) (weight (xorAll y)))
 
   -- words behind the first W do not matter
   pub shares-words : (words′ : List ℕ) → take (sampleWords n k) words ≡ take (sampleWords n k) words′ → sampleShares n k q x y words ≡ sampleShares n k q x y words′
   unfolding sampleShares
   shares-words words′ e =
-      table-same n _ _ (share-local q n large k (at x) (at y) (at words) (at words′) (λ j l. sym (getD-take (sampleWords n k) words j 0 l) ∙ ap (λ (l : List ℕ). at l j) e ∙ getD-take (sampleWords n k) words′ j 0 l))
+      table-same n _ _ (share-local q n (pair-large P) k (at x) (at y) (at words) (at words′) (λ j l. sym (getD-take (sampleWords n k) words j 0 l) ∙ ap (λ (l : List ℕ). at l j) e ∙ getD-take (sampleWords n k) words′ j 0 l))
 
 -- ---- a call that passes every check
 

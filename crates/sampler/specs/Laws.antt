@@ -9,7 +9,7 @@ use Rattle.residue.specs.Residue.{reduce, add, neg, sub, sum, EachBelow}
 use Rattle.residue.specs.Laws.{add-lt, sub-reduce}
 use Rattle.residue.specs.Sum.{sum-cong, sum-reduce, sum-add, sum-neg, sum-swap}
 use Rattle.buffers.specs.Positions.{at, after, Same, Below}
-use Rattle.checks.specs.Width.{bit}
+use Rattle.checks.specs.Width.{bit, bit-lt}
 use Rattle.masking.specs.Sharing.{xorAll}
 use Rattle.masking.specs.Signed.{weight}
 use Rattle.masking.specs.Weight.{sum-bits, weight-bits}
@@ -17,9 +17,6 @@ use Rattle.masking.specs.Xor.{xorAll-lt, bit-xorAll}
 use Rattle.conversion.specs.Conversion.{bitWords}
 use Rattle.conversion.specs.Laws.{convertBit-lt, convertBit-local, convertBit-sum}
 use Rattle.sampler.specs.Sampler.{bitsAt, row, stringShare, sampleShare, sampleWords}
-
-pub bit-lt : (x t : ℕ) → bit x t < 2
-bit-lt x t = omega arith
 
 module _ (q n : ℕ) (large : 2 < q) where
   abbrev positive : 0 < q

@@ -2,7 +2,6 @@
 use mathlib.Core.Path.{_≡_, sym, ap, _∙_}
 use mathlib.Core.List.{List}
 use Prim.Native.Nat.{ℕ, _^_, _<_}
-use native.Mathlib.Omega.{arith}
 use lib.ListN.{length, take}
 use borrow.Author.Tests.{le-leb, lt-ltb, eq-eqb}
 use Rattle.residue.specs.Residue.{reduceℤ}
@@ -15,7 +14,7 @@ use Rattle.masking.specs.Weight.{weight-le}
 use Rattle.masking.specs.Xor.{xorAll-lt}
 use Rattle.masking.specs.Centring.{centred-sample}
 use Rattle.sampler.specs.Sampler.{sampleShares, pairChecks, bufferChecks, sampleChecks, sampled}
-use Rattle.sampler.specs.Accepted.{SharedPair, call-pair}
+use Rattle.sampler.specs.Accepted.{SharedPair, pair-large, call-pair}
 use Rattle.sampler.specs.Calls.{length-shares, shares-below, shares-residue, call-shares}
 
 module _ (n k q : ℕ) (x y words out work : List ℕ) (h : Hold (sampleChecks n k q x y words (length out) (length work))) where
@@ -50,7 +49,7 @@ module _ (n k q : ℕ) (x y words out work : List ℕ) (h : Hold (sampleChecks n
   unfolding openedResidue
   shares-opened =
       rw (call-shares n k q x y words out work h)
-      (accepts _ (openResidueChecks n q (sampleShares n k q x y words)) (pairs-hold .0, (le-leb 3 q (omega (arith, pair .one, pair .modulus)), (eq-eqb _ _ (length-shares n k q x y words), (ap isNone (each-below-none q (sampleShares n k q x y words) 0 (shares-below pair words)), tt))))
+      (accepts _ (openResidueChecks n q (sampleShares n k q x y words)) (pairs-hold .0, (le-leb 3 q (pair-large pair), (eq-eqb _ _ (length-shares n k q x y words), (ap isNone (each-below-none q (sampleShares n k q x y words) 0 (shares-below pair words)), tt))))
       ∙ ap accepted (shares-residue pair words))
 
   -- which, centred, is the difference

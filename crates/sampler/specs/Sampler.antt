@@ -34,7 +34,7 @@ sampleShares n k q x y words = table n (sampleShare q n k (at x) (at y) (at word
 
 -- ---- the call
 
--- W, the words that a sample takes
+-- W: how many words a sample takes
 abbrev pub sampleWords : ℕ → ℕ → ℕ
 sampleWords n k = 2 * k * bitWords n
 
@@ -42,7 +42,7 @@ sampleWords n k = 2 * k * bitWords n
 abbrev pub workLength : ℕ → ℕ → ℕ
 workLength n k = 2 * k * n
 
--- the checks of the two shared strings: 1 to 7
+-- The checks of the two shared strings, 1 to 7: what passes them is the page's 'accepted pair'.
 abbrev pub pairChecks : ℕ → ℕ → ℕ → List ℕ → List ℕ → List Check
 pairChecks n k q x y = parameterChecks n k q ++ (exactly 4 n x ∷ exactly 5 n y ∷ narrow 6 k x ∷ narrow 7 k y ∷ [])
 

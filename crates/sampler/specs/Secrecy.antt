@@ -1,4 +1,5 @@
--- Demand 3: what n − 1 shares of a sample tell, nothing (document 01, 'The rule about n − 1 shares').
+-- Demand 3: n − 1 shares of a sample tell nothing (document 01, 'The rule about n − 1 shares').
+-- Shares are counted from 0 here, from 1 on the page.
 use mathlib.Core.Path.{_≡_}
 use mathlib.Core.List.{List}
 use Prim.Native.Nat.{ℕ, _≤_, _<_}

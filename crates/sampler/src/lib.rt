@@ -60,7 +60,7 @@ fn convert_string(
 
 // The sum modulo q of column i over k rows, from position `start` on.
 fn sum_column(work: &[Word], start: usize, n: usize, k: usize, q: Word, i: usize) -> Wide
-    requires { ⌜ (i < n) × (n ≤ 8) × (k ≤ 16) × Modulus q × Drawn q start (k * n) (now work) ⌝ }
+    requires { ⌜ (i < n) × Modulus q × Drawn q start (k * n) (now work) ⌝ }
     ensures { λ r. ⌜ r ≡ columnSum q n k start (at (now (work .entry))) i ⌝ }
 {
     let modulus = residue::widen(q);
@@ -71,9 +71,9 @@ fn sum_column(work: &[Word], start: usize, n: usize, k: usize, q: Word, i: usize
     total
 }
 
-// Output share i: column i of the k rows of x less column i of the k rows of y behind them.
+// Output share i: the sum of column i over the k rows of x, less that over the k rows of y behind them.
 fn write_shares(work: &[Word], n: usize, k: usize, q: Word, out: &mut [Word])
-    requires { ⌜ (n ≤ 8) × (k ≤ 16) × Modulus q × Drawn q 0 (workLength n k) (now work) × (n ≤ length (now out)) ⌝ }
+    requires { ⌜ Modulus q × Drawn q 0 (workLength n k) (now work) × (n ≤ length (now out)) ⌝ }
     ensures { λ _. ⌜ now (out .exit) ≡ overwrite (now (out .entry)) 0 (table n (columnShare q n k (at (now (work .entry))))) ⌝ }
 {
     let modulus = residue::widen(q);

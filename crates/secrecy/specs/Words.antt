@@ -4,11 +4,11 @@ use mathlib.Core.List.{List}
 use Prim.Native.Nat.{ℕ, _≤_, _<_}
 use native.Mathlib.Decide.{decLt}
 use native.Mathlib.Omega.{arith}
-use lib.ListN.{length, List·getD-eq-default}
+use lib.ListN.{List·getD-eq-default}
 use Rattle.residue.specs.Residue.{reduce}
 use Rattle.residue.specs.Laws.{reduce-small, reduce-zero}
 use Rattle.buffers.specs.Positions.{at, table}
-use Rattle.buffers.specs.PositionLaws.{length-table, table-at, table-list, list-table}
+use Rattle.buffers.specs.PositionLaws.{length-table, table-below, table-list, list-table}
 use Rattle.secrecy.specs.Secrecy.{Full, OneToOne}
 use Rattle.secrecy.specs.Laws.{undone-one-to-one}
 
@@ -48,9 +48,7 @@ module _ {q W : ℕ} {m u : (ℕ → ℕ) → ℕ → ℕ} (M : Undone q W m u) 
 
   onLists-full : (ws : List ℕ) → Full q W ws → Full q W (onLists W m ws)
   unfolding onLists
-  onLists-full ws s =
-      let e : length (table W (m (at ws))) ≡ W = length-table W (m (at ws)) in
-      record { count = e; below = λ j l. rw (table-at W (m (at ws)) j (omega arith)) (M .small (at ws) j) }
+  onLists-full ws s = record { count = length-table W (m (at ws)); below = table-below q W (m (at ws)) (λ j l. M .small (at ws) j) }
 
   onLists-undone : (ws : List ℕ) → Full q W ws → onLists W u (onLists W m ws) ≡ ws
   unfolding onLists

@@ -31,7 +31,7 @@ abbrev μ-loop : tie.MeasureT-loop
 -- the words of a share's pairs lie among those of step 3
 position : (c : tie.In-loop2 Inv-loop2 μ-loop2 Inv-loop μ-loop) → (c .before .before .before .before .before .before .before .before .args .start ≤ c .before .loop2 .p) × (c .before .loop2 .p < c .before .before .before .before .before .before .before .before .args .start + pairs (c .before .before .before .before .before .before .before .before .args .n))
 position c =
-    let e = c .before .loop2 .inv .2 .place in
+    let e = c .before .loop2 .inv .2 .position in
     let d = pairs-step (c .before .before .before .before .before .before .before .before .args .n - c .before .before .before .before .loop .i) (c .before .before .before .before .before .before .before .before .args .n - (c .before .before .before .before .loop .i + 1)) (omega arith) in
     (omega arith, omega arith)
 
@@ -157,7 +157,7 @@ loop-again c =
     let o = c .before .before .before .before .before .loop in
     let l = c .before .before .loop2 in
     let f = refresh (s .q) (s .n) (after (s .start) (at (s .words .now))) (at (s .shares)) in
-    let e = l .inv .2 .place in
+    let e = l .inv .2 .position in
     let d = pairs-step (s .n - o .i) (s .n - (o .i + 1)) (omega arith) in
     let n : length (table (s .n) f) ≡ s .n = length-table (s .n) f in
     let v = table-at (s .n) f (o .i) (c .before .before .before .before .loop-test .taken) ∙ share-done _ _ _ _ _ _ _ (c .before .before .before .before .before .loop .inv .3) (c .before .before .before .before .loop-test .taken) _ _ _ _ (c .before .before .loop2 .inv .2) (c .before .before .loop2 .inv .0) (c .before .loop2-test .left) (l .inv .1) ∙ sym (c .narrow2 .ensures) in (

@@ -20,7 +20,7 @@ Inv-loop shares n k q words start work₀ to t₀ work t = (t ≤ k) × (work �
 abbrev μ-loop : tie.MeasureT-loop
 μ-loop shares n k q words start work₀ to t₀ work t = k - t
 
--- the next row has its words and its place
+-- the next row has its words and its room
 next-words : (c : tie.In-loop Inv-loop μ-loop) → c .before .before .before .before .before .args .start + (c .before .loop .t * bitWords (c .before .before .before .before .before .args .n) + bitWords (c .before .before .before .before .before .args .n)) ≤ length (c .before .before .before .before .before .args .words .now)
 next-words c = omega (arith, row-fits (bitWords (c .before .before .before .before .before .args .n)) (c .loop-test .taken), c .before .before .before .before .before .pre .5 .room)
 

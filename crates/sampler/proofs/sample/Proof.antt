@@ -7,7 +7,7 @@ use Rattle.checks.specs.declared.Answer.the-variants.{Done}
 use Rattle.checks.specs.Answers.{outcome}
 use Rattle.checks.specs.Laws.{Hold, checks-hold, settles-accepted, settles-refused}
 use Rattle.sampler.specs.Sampler.{sampleWords, sampleChecks, both, sampled}
-use Rattle.sampler.specs.Accepted.{SharedPair, call-pair, call-drawn, call-room}
+use Rattle.sampler.specs.Accepted.{SharedPair, pair-large, call-pair, call-drawn, call-room}
 use Rattle.sampler.specs.SecrecyProof.{secrecy}
 use Rattle.sampler.proofs.Steps.{Small, small}
 use Rattle.sampler.proofs.sample.Statement.{statement}
@@ -44,7 +44,7 @@ write-sample-requires c κs =
       omega (arith, p .two),
       p .eight,
       p .sixteen,
-      record { large = omega (arith, p .one, p .modulus); small = omega arith },
+      record { large = pair-large p; small = omega arith },
       p .x-count,
       p .y-count,
       d,

@@ -29,19 +29,19 @@ loop-holds : tie.Need-loop-holds Inv-loop μ-loop
 loop-holds c = (omega arith, running-none _ _)
 
 mul-widen : tie.Need-mul-widen Inv-loop μ-loop
-mul-widen c = omega (arith, inside c, c .before .before .before .before .pre .4 .room)
+mul-widen c = omega (arith, inside c, c .before .before .before .before .pre .2 .room)
 
 add-widen : tie.Need-add-widen Inv-loop μ-loop
-add-widen c = omega (arith, inside c, c .before .before .before .before .pre .4 .room)
+add-widen c = omega (arith, inside c, c .before .before .before .before .pre .2 .room)
 
 add-widen-2 : tie.Need-add-widen-2 Inv-loop μ-loop
-add-widen-2 c = omega (arith, inside c, c .before .before .before .before .pre .4 .room)
+add-widen-2 c = omega (arith, inside c, c .before .before .before .before .pre .2 .room)
 
 mul-widen-2 : tie.Need-mul-widen-2 Inv-loop μ-loop
-mul-widen-2 c = omega (arith, inside c, c .before .before .before .before .pre .4 .room)
+mul-widen-2 c = omega (arith, inside c, c .before .before .before .before .pre .2 .room)
 
 shared-slice-read-widen : tie.Need-shared-slice-read-widen Inv-loop μ-loop
-shared-slice-read-widen c = omega (arith, inside (c .before), c .before .before .before .before .before .pre .4 .room)
+shared-slice-read-widen c = omega (arith, inside (c .before), c .before .before .before .before .before .pre .2 .room)
 
 widen-requires-2 : tie.Need-widen-requires-2 Inv-loop μ-loop
 widen-requires-2 c κs = search needs
@@ -51,9 +51,9 @@ add-requires c κs =
     let s = c .before .before .before .before .before .before in
     let l = c .before .before .before .loop in
     let w = c .before .before .before .before .widen .ensures in
-    let q = s .pre .3 in
+    let q = s .pre .1 in
     let e : l .total < s .args .q = rw (l .inv .1) (sum-lt (s .args .q) (omega (arith, q .large)) (l .t) _) in
-    let d = column-lt (l .t) (s .args .i) (c .before .before .loop-test .taken) (s .pre .0) (s .pre .4) in
+    let d = column-lt (l .t) (s .args .i) (c .before .before .loop-test .taken) (s .pre .0) (s .pre .2) in
     (omega arith, omega (arith, c .widen2 .ensures), omega (arith, q .small))
 
 add-t : tie.Need-add-t Inv-loop μ-loop

@@ -41,7 +41,7 @@ write-shares-requires : tie.Need-write-shares-requires
 write-shares-requires c κs =
     let s = c .before .before .before .before .before .before .before .before .before .before .before .before .before .before .before in
     let q = s .pre .3 in
-    (omega arith, omega arith, q, filled-drawn _ _ _ _ _ _ _ (c .before .before .before .before .before .before .before .before .convert-string .ensures) (c .before .before .before .before .convert-string2 .ensures) _ (s .pre .8) (λ t. row-lt _ _ (q .large) _ _ t) (λ t. row-lt _ _ (q .large) _ _ t), search needs)
+    (q, filled-drawn _ _ _ _ _ _ _ (c .before .before .before .before .before .before .before .before .convert-string .ensures) (c .before .before .before .before .convert-string2 .ensures) _ (s .pre .8) (λ t. row-lt _ _ (q .large) _ _ t) (λ t. row-lt _ _ (q .large) _ _ t), search needs)
 
 mul-zero : tie.Need-mul-zero
 mul-zero c = search needs

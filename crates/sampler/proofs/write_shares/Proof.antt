@@ -29,22 +29,22 @@ loop-holds c = (omega arith, values-none _ _, refl)
 sum-column-requires : tie.Need-sum-column-requires Inv-loop μ-loop
 sum-column-requires c κs =
     let s = c .before .before .before .before .before in
-    (c .loop-test .taken, omega arith, omega arith, s .pre .2, drawn-part 0 0 _ refl (omega arith) (s .pre .3))
+    (c .loop-test .taken, s .pre .0, drawn-part 0 0 _ refl (omega arith) (s .pre .1))
 
 mul-sum-column : tie.Need-mul-sum-column Inv-loop μ-loop
-mul-sum-column c = omega (arith, c .before .before .before .before .before .before .pre .3 .room)
+mul-sum-column c = omega (arith, c .before .before .before .before .before .before .pre .1 .room)
 
 sum-column-requires-2 : tie.Need-sum-column-requires-2 Inv-loop μ-loop
 sum-column-requires-2 c κs =
     let s = c .before .before .before .before .before .before in
     let m = s .args .k * s .args .n in
-    (c .before .loop-test .taken, omega arith, omega arith, s .pre .2, drawn-part m m m (omega arith) (omega arith) (s .pre .3))
+    (c .before .loop-test .taken, s .pre .0, drawn-part m m m (omega arith) (omega arith) (s .pre .1))
 
 sub-requires : tie.Need-sub-requires Inv-loop μ-loop
 sub-requires c κs =
     let s = c .before .before .before .before .before .before .before in
     let w = c .before .before .before .before .widen .ensures in
-    let q = s .pre .2 in
+    let q = s .pre .0 in
     let x : c .before .sum-column .result < s .args .q = rw (c .before .sum-column .ensures) (sum-lt (s .args .q) (omega (arith, q .large)) (s .args .k) _) in
     let y : c .sum-column2 .result < s .args .q = rw (c .sum-column2 .ensures) (sum-lt (s .args .q) (omega (arith, q .large)) (s .args .k) _) in
     (omega arith, omega arith, omega (arith, q .small))
@@ -53,7 +53,7 @@ narrow-requires : tie.Need-narrow-requires Inv-loop μ-loop
 narrow-requires c κs =
     let s = c .before .before .before .before .before .before .before .before in
     let w = c .before .before .before .before .before .widen .ensures in
-    rw (c .sub .ensures, w) (add-lt (s .args .q) (omega (arith, s .pre .2 .large)) _ _)
+    rw (c .sub .ensures, w) (add-lt (s .args .q) (omega (arith, s .pre .0 .large)) _ _)
 
 mul-out : tie.Need-mul-out Inv-loop μ-loop
 mul-out c = search needs
