@@ -1,307 +1,39 @@
-//! The calls of document 01, written from the page alone and sharing no code with the library.
+//! A second reading of document 01, written from the page alone and sharing no code with the library or its programs.
 //!
-//! `reference FILE NUMBER..` reads the lines that the demo program printed. For each it takes the call and its inputs, works out the
-//! answer, the output and the work area by itself, and compares the whole line. Each NUMBER must have been met as a refusal.
+//! - `reference demo FILE NUMBER..` works out the lines that the demo program printed.
+//! - `reference lessons PROGRAM STORED EXAMPLES SEED COUNT` works out what the lesson program prints.
+//! - `reference example SET SEED` writes a lesson for a published parameter set. The folder of examples holds those of sets 1 to 7, each
+//!   made with the seed 2026.
 
-use std::collections::BTreeMap;
+mod calls;
+mod compare;
+mod demo;
+mod files;
+mod lesson;
+mod tally;
+
+use std::io::Write;
 use std::process::exit;
 
-/// How a call ends: what it answers, or document 01's number and place.
-type Verdict<T> = Result<T, (u64, usize)>;
-
-fn ask(holds: bool, number: u64, place: usize) -> Verdict<()> {
-    if holds {
-        Ok(())
-    } else {
-        Err((number, place))
-    }
+fn number(text: &str) -> u64 {
+    text.parse().unwrap_or_else(|_| panic!("{text:?} is no number"))
 }
 
-/// Every element passes, or the place of the first that does not.
-fn ask_all(list: &[u64], number: u64, passes: impl Fn(u64) -> bool) -> Verdict<()> {
-    match list.iter().position(|x| !passes(*x)) {
-        None => Ok(()),
-        Some(place) => Err((number, place)),
-    }
-}
-
-fn has_bits_at_or_above(word: u64, k: u64) -> bool {
-    (k..64).any(|i| word >> i & 1 == 1)
-}
-
-fn mask(n: u64, k: u64, value: u64, masks: &[u64], out: &mut [u64]) -> Verdict<u64> {
-    ask((2..=8).contains(&n), 1, 0)?;
-    ask((1..=16).contains(&k), 2, 0)?;
-    ask(!has_bits_at_or_above(value, k), 12, 0)?;
-    ask(masks.len() as u64 == n - 1, 13, 0)?;
-    ask_all(masks, 14, |m| !has_bits_at_or_above(m, k))?;
-    ask(out.len() as u64 >= n, 10, 0)?;
-    let mut last = value;
-    for (i, m) in masks.iter().enumerate() {
-        out[i] = *m;
-        last ^= m;
-    }
-    out[masks.len()] = last;
-    Ok(n)
-}
-
-/// a − b modulo q, for a and b below q.
-fn minus(a: u64, b: u64, q: u64) -> u64 {
-    (a + q - b) % q
-}
-
-/// Step 2: from the list A for j − 1 shares, the share b(j) and j − 1 random words to the list C for j shares.
-fn one_share_more(q: u64, a: &[u64], b: u64, r: &[u64]) -> Vec<u64> {
-    let mut list: Vec<u64> = a.iter().zip(r).map(|(a, r)| minus(*a, *r, q)).collect();
-    list.push(r.iter().sum::<u64>() % q);
-    for x in &mut list {
-        *x = minus(*x, 2 * *x * b % q, q);
-    }
-    list[0] = (list[0] + b) % q;
-    list
-}
-
-/// Step 3: each pair (i, m) with i < m takes one word, which share i gains and share m loses.
-fn refresh(q: u64, list: &mut [u64], words: &[u64]) {
-    let mut used = 0;
-    for i in 0..list.len() {
-        for m in i + 1..list.len() {
-            list[i] = (list[i] + words[used]) % q;
-            list[m] = minus(list[m], words[used], q);
-            used += 1;
-        }
-    }
-}
-
-/// Steps 1, 2 and 3: the n numbers of a shared bit, with its n(n − 1) words at the front of the list.
-fn numbers_of_bit(q: u64, bits: &[u64], words: &[u64]) -> Vec<u64> {
-    let mut list = vec![bits[0]];
-    let mut rest = words;
-    for b in &bits[1..] {
-        let (next, later) = rest.split_at(list.len());
-        list = one_share_more(q, &list, *b, next);
-        rest = later;
-    }
-    refresh(q, &mut list, rest);
-    list
-}
-
-/// One shared bit to n numbers. Like every modulus of the page, q is a 16-bit number.
-fn convert_bit(n: u64, q: u64, bits: &[u64], words: &[u64], out: &mut [u64]) -> Verdict<u64> {
-    ask((2..=8).contains(&n), 1, 0)?;
-    ask(q >= 3, 3, 0)?;
-    ask(bits.len() as u64 == n, 4, 0)?;
-    ask_all(bits, 6, |b| b <= 1)?;
-    let count = n * (n - 1);
-    ask(words.len() as u64 >= count, 8, 0)?;
-    ask_all(&words[..count as usize], 9, |r| r < q)?;
-    ask(out.len() as u64 >= n, 10, 0)?;
-    out[..n as usize].copy_from_slice(&numbers_of_bit(q, bits, words));
-    Ok(count)
-}
-
-fn open_string(n: u64, k: u64, shares: &[u64]) -> Verdict<u64> {
-    ask((2..=8).contains(&n), 1, 0)?;
-    ask((1..=16).contains(&k), 2, 0)?;
-    ask(shares.len() as u64 == n, 4, 0)?;
-    ask_all(shares, 6, |s| !has_bits_at_or_above(s, k))?;
-    Ok(shares.iter().fold(0, |a, s| a ^ s))
-}
-
-fn open_residue(n: u64, q: u64, shares: &[u64]) -> Verdict<u64> {
-    ask((2..=8).contains(&n), 1, 0)?;
-    ask(q >= 3, 3, 0)?;
-    ask(shares.len() as u64 == n, 15, 0)?;
-    ask_all(shares, 16, |s| s < q)?;
-    Ok(shares.iter().sum::<u64>() % q)
-}
-
-fn centre(q: u64, r: u64) -> Verdict<i64> {
-    ask(q >= 3, 3, 0)?;
-    ask(r < q, 17, 0)?;
-    Ok(if 2 * r < q { r as i64 } else { r as i64 - q as i64 })
-}
-
-fn weight(word: u64) -> i64 {
-    (0..16).map(|i| (word >> i & 1) as i64).sum()
-}
-
-fn weight_difference(k: u64, x: u64, y: u64) -> Verdict<i64> {
-    ask((1..=16).contains(&k), 2, 0)?;
-    ask(!has_bits_at_or_above(x, k), 12, 0)?;
-    ask(!has_bits_at_or_above(y, k), 12, 1)?;
-    Ok(weight(x) - weight(y))
-}
-
-fn parameters(n: u64, k: u64, q: u64) -> Verdict<()> {
-    ask((2..=8).contains(&n), 1, 0)?;
-    ask((1..=16).contains(&k), 2, 0)?;
-    ask(q >= 2 * k + 1, 3, 0)
-}
-
-/// The sampler. The strings are the shares of x and the shares of y.
-fn sample(n: u64, k: u64, q: u64, strings: [&[u64]; 2], words: &[u64], out: &mut [u64], work: &mut [u64]) -> Verdict<u64> {
-    let [x, y] = strings;
-    parameters(n, k, q)?;
-    ask(x.len() as u64 == n, 4, 0)?;
-    ask(y.len() as u64 == n, 5, 0)?;
-    ask_all(x, 6, |s| !has_bits_at_or_above(s, k))?;
-    ask_all(y, 7, |s| !has_bits_at_or_above(s, k))?;
-    let count = 2 * k * n * (n - 1);
-    ask(words.len() as u64 >= count, 8, 0)?;
-    ask_all(&words[..count as usize], 9, |r| r < q)?;
-    ask(out.len() as u64 >= n, 10, 0)?;
-    ask(work.len() as u64 >= 2 * k * n, 11, 0)?;
-    let (n, k) = (n as usize, k as usize);
-    for row in 0..2 * k {
-        let (shares, bit) = if row < k { (x, row) } else { (y, row - k) };
-        let bits: Vec<u64> = shares.iter().map(|s| s >> bit & 1).collect();
-        let first = row * n * (n - 1);
-        let numbers = numbers_of_bit(q, &bits, &words[first..first + n * (n - 1)]);
-        work[row * n..(row + 1) * n].copy_from_slice(&numbers);
-    }
-    for (i, share) in out[..n].iter_mut().enumerate() {
-        let x_sum = (0..k).map(|row| work[row * n + i]).sum::<u64>() % q;
-        let y_sum = (k..2 * k).map(|row| work[row * n + i]).sum::<u64>() % q;
-        *share = minus(x_sum, y_sum, q);
-    }
-    work[..2 * k * n].fill(0);
-    Ok(count)
-}
-
-/// The shares add up to the weight of x less the weight of y, modulo q.
-fn adds_up(q: u64, strings: [&[u64]; 2], shares: &[u64]) -> bool {
-    let [x, y] = strings.map(|s| weight(s.iter().fold(0, |a, w| a ^ w)));
-    (shares.iter().sum::<u64>() % q) as i64 == (x - y).rem_euclid(q as i64)
-}
-
-fn parameter_set(number: u64) -> Verdict<(u64, u64)> {
-    match number {
-        1 => Ok((2, 3329)),
-        2 => Ok((3, 3329)),
-        3 => Ok((8, 12289)),
-        4 => Ok((16, 12289)),
-        5 => Ok((5, 8192)),
-        6 => Ok((4, 8192)),
-        7 => Ok((3, 8192)),
-        _ => Err((22, 0)),
-    }
-}
-
-/// A line's inputs: a name, and the numbers behind it. The call's own name is the first.
-struct Inputs {
-    fields: Vec<(String, Vec<u64>)>,
-}
-
-impl Inputs {
-    /// What stands before the answer.
-    fn read(line: &str) -> Inputs {
-        let mut fields: Vec<(String, Vec<u64>)> = Vec::new();
-        for word in line.split(' ') {
-            if let Ok(x) = word.parse() {
-                fields.last_mut().expect("a name before a number").1.push(x);
-            } else if ["gives", "refused", "pass"].contains(&word) {
-                break;
-            } else {
-                fields.push((word.to_string(), Vec::new()));
-            }
-        }
-        Inputs { fields }
-    }
-
-    fn call(&self) -> &str {
-        &self.fields[0].0
-    }
-
-    fn list(&self, name: &str) -> &[u64] {
-        match self.fields.iter().find(|f| f.0 == name) {
-            Some(f) => &f.1,
-            None => panic!("no field {name}"),
-        }
-    }
-
-    fn number(&self, name: &str) -> u64 {
-        assert_eq!(self.list(name).len(), 1, "field {name}");
-        self.list(name)[0]
-    }
-
-    fn text(&self) -> String {
-        let words = self.fields.iter().map(|(name, numbers)| format!("{name}{}", spaced(numbers)));
-        words.collect::<Vec<_>>().join(" ")
-    }
-}
-
-fn spaced(numbers: &[u64]) -> String {
-    numbers.iter().map(|x| format!(" {x}")).collect()
-}
-
-fn ending<T>(verdict: Verdict<T>, accepted: impl Fn(T) -> String, met: &mut BTreeMap<u64, usize>) -> String {
-    match verdict {
-        Ok(x) => {
-            *met.entry(0).or_default() += 1;
-            accepted(x)
-        }
-        Err((number, place)) => {
-            *met.entry(number).or_default() += 1;
-            format!(" refused {number} {place}")
-        }
-    }
-}
-
-/// The whole line that the inputs should give.
-fn expected(i: &Inputs, met: &mut BTreeMap<u64, usize>) -> String {
-    let answer = match i.call() {
-        "mask" => {
-            let mut out = i.list("out").to_vec();
-            let verdict = mask(i.number("n"), i.number("k"), i.number("value"), i.list("masks"), &mut out);
-            ending(verdict, |x| format!(" gives {x}"), met) + " out" + &spaced(&out)
-        }
-        "convert_bit" => {
-            let mut out = i.list("out").to_vec();
-            let verdict = convert_bit(i.number("n"), i.number("q"), i.list("bits"), i.list("words"), &mut out);
-            ending(verdict, |x| format!(" gives {x}"), met) + " out" + &spaced(&out)
-        }
-        "sample" => {
-            let (n, k, q, strings) = (i.number("n"), i.number("k"), i.number("q"), [i.list("x"), i.list("y")]);
-            let (mut out, mut work) = (i.list("out").to_vec(), i.list("work").to_vec());
-            let verdict = sample(n, k, q, strings, i.list("words"), &mut out, &mut work);
-            assert!(verdict.is_err() || adds_up(q, strings, &out[..n as usize]), "the shares do not add up: {}", i.text());
-            ending(verdict, |x| format!(" gives {x}"), met) + " out" + &spaced(&out) + " work" + &spaced(&work)
-        }
-        "open_string" => ending(open_string(i.number("n"), i.number("k"), i.list("shares")), |x| format!(" gives {x}"), met),
-        "open_residue" => ending(open_residue(i.number("n"), i.number("q"), i.list("shares")), |x| format!(" gives {x}"), met),
-        "centre" => ending(centre(i.number("q"), i.number("residue")), |x| format!(" gives {x}"), met),
-        "weight_difference" => ending(weight_difference(i.number("k"), i.number("x"), i.number("y")), |x| format!(" gives {x}"), met),
-        "parameters" => ending(parameters(i.number("n"), i.number("k"), i.number("q")), |()| " pass".to_string(), met),
-        "parameter_set" => ending(parameter_set(i.number("parameter_set")), |(k, q)| format!(" gives {k} {q}"), met),
-        other => panic!("unknown call {other}"),
-    };
-    i.text() + &answer
+fn write_example(set: u64, seed: u64) -> bool {
+    std::io::stdout().write_all(&files::example(set, seed)).expect("standard output");
+    true
 }
 
 fn main() {
-    let arguments: Vec<String> = std::env::args().collect();
-    let text = std::fs::read_to_string(&arguments[1]).expect("the demo's output");
-    assert!(text.ends_with('\n'), "the last line has no line feed");
-    let mut met = BTreeMap::new();
-    let mut wrong = 0;
-    for (number, line) in text.lines().enumerate() {
-        let want = expected(&Inputs::read(line), &mut met);
-        if line != want {
-            wrong += 1;
-            eprintln!("line {}: {line}\n  should be: {want}", number + 1);
-        }
-    }
-    for number in &arguments[2..] {
-        let number = number.parse().expect("a refusal's number");
-        if !met.contains_key(&number) {
-            wrong += 1;
-            eprintln!("no call is refused with {number}");
-        }
-    }
-    let refused: Vec<String> = met.iter().filter(|(n, _)| **n != 0).map(|(n, c)| format!("{n}:{c}")).collect();
-    println!("reference: {} lines, {} accepted, refusals by number {}", text.lines().count(), met.get(&0).unwrap_or(&0), refused.join(" "));
-    if wrong != 0 {
+    let arguments: Vec<String> = std::env::args().skip(1).collect();
+    let arguments: Vec<&str> = arguments.iter().map(String::as_str).collect();
+    let right = match &arguments[..] {
+        ["demo", file, numbers @ ..] => demo::is_right(file, numbers),
+        ["lessons", program, stored, examples, seed, count] => compare::is_right(program, stored, examples, number(seed), number(count) as usize),
+        ["example", set, seed] => write_example(number(set), number(seed)),
+        _ => panic!("demo FILE NUMBER.., lessons PROGRAM STORED EXAMPLES SEED COUNT or example SET SEED"),
+    };
+    if !right {
         exit(1);
     }
 }

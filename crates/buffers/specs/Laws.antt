@@ -1,12 +1,13 @@
 -- Laws of a list of which a part was overwritten.
 use mathlib.Core.Path.{_≡_, refl, sym, ap, _∙_}
-use mathlib.Core.List.{List, [], _∷_, _++_, append-assoc}
+use mathlib.Core.List.{List, [], _∷_, _++_, append-assoc, append-nil}
 use Prim.Native.Nat.{ℕ, suc, _+_, _≤_, _<_}
 use native.Mathlib.Nat as N
 use native.Mathlib.Numerals.{add-one}
+use native.Mathlib.Decide.{decLe}
 use native.Mathlib.Omega.{arith}
-use lib.ListN.{length, getD, set, take, drop, length-append, List·getD-append}
-use lib.Seq.{length-take-le, take-length, take-at, drop-at, drop-append-add, drop-drop, drop-cons, set-at, append-snoc, paste, paste-zero, paste-suc, length-paste}
+use lib.ListN.{length, getD, set, take, drop, length-append, drop-of-length-le, List·getD-append}
+use lib.Seq.{length-take-le, take-all, take-length, take-at, drop-at, drop-append-add, drop-drop, drop-cons, set-at, append-snoc, paste, paste-zero, paste-suc, length-paste}
 use Rattle.buffers.specs.Overwrite.{overwrite}
 
 -- ---- one element at a time: s is written as far as its first i elements
@@ -36,15 +37,29 @@ module _ (l : List ℕ) (start : ℕ) (s : List ℕ) where
   pub length-overwrite : start + length s ≤ length l → length (overwrite l start s) ≡ length l
   length-overwrite h = ap length (sym (written-all (length s) refl)) ∙ (unfold written in (length-paste l start s (length s) h (omega arith)))
 
-  -- one part behind the other
-  pub overwrite-append : (r : List ℕ) → start ≤ length l → overwrite (overwrite l start s) (start + length s) r ≡ overwrite l start (s ++ r)
+  -- at the end or past it
+  overwrite-past : length l ≤ start → overwrite l start s ≡ l ++ s
   unfolding overwrite
-  overwrite-append r h =
+  overwrite-past h = rw (take-all start l h, drop-of-length-le l {i = start + length s} (omega arith), append-nil (l ++ s))
+
+  append-within : (r : List ℕ) → start ≤ length l → overwrite (overwrite l start s) (start + length s) r ≡ overwrite l start (s ++ r)
+  unfolding overwrite
+  append-within r h =
       let m : length (take start l ++ s) ≡ start + length s = omega (arith, length-append (take start l) s, length-take-le start l h) in
       let k : start + length s + length r ≡ start + length (s ++ r) = omega (arith, length-append s r) in
       let rest : List ℕ = drop (start + length s) l in
       let d : drop (start + length s + length r) (take start l ++ s ++ rest) ≡ drop (start + length (s ++ r)) l = ap (λ (j : ℕ). drop (j + length r) (take start l ++ s ++ rest)) (sym m) ∙ drop-append-add (take start l ++ s) rest (length r) ∙ drop-drop (length r) (start + length s) l ∙ ap (λ (j : ℕ). drop j l) k in
       rw (take-at (take start l ++ s) rest (start + length s) m, d, append-assoc (take start l) s r)
+
+-- one part behind the other
+pub overwrite-append : (l : List ℕ) (start : ℕ) (s r : List ℕ) → overwrite (overwrite l start s) (start + length s) r ≡ overwrite l start (s ++ r)
+overwrite-append l start s r = go (decLe start (length l))
+  where
+    go : Dec (start ≤ length l) → overwrite (overwrite l start s) (start + length s) r ≡ overwrite l start (s ++ r)
+    go (yes h) = append-within l start s r h
+    go (no g) =
+        let h : length l ≤ start = omega arith in
+        rw (overwrite-past l start s h, overwrite-past l start (s ++ r) h, overwrite-past (l ++ s) (start + length s) r (omega (arith, length-append l s))) (append-assoc l s r)
 
 -- ---- at the front
 

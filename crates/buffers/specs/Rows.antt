@@ -67,8 +67,8 @@ module _ (l : List ℕ) (start n : ℕ) (f : ℕ → ℕ → ℕ) where
   unfolding rows
   rows-none = sym (overwrite-none l start)
 
-  pub rows-next : (t : ℕ) (m : List ℕ) (s : List ℕ) → m ≡ overwrite l start (rows t n f) → s ≡ table n (f t) → start ≤ length l → overwrite m (start + t * n) s ≡ overwrite l start (rows (t + 1) n f)
-  rows-next t m s e d h = rw (e, d, add-one t, rows-last t n f, ← length-rows t n f) (overwrite-append l start (rows t n f) (table n (f t)) h)
+  pub rows-next : (t : ℕ) (m : List ℕ) (s : List ℕ) → m ≡ overwrite l start (rows t n f) → s ≡ table n (f t) → overwrite m (start + t * n) s ≡ overwrite l start (rows (t + 1) n f)
+  rows-next t m s e d = rw (e, d, add-one t, rows-last t n f, ← length-rows t n f) (overwrite-append l start (rows t n f) (table n (f t)))
 
   pub rows-all : (t k : ℕ) (m : List ℕ) → t ≡ k → m ≡ overwrite l start (rows t n f) → m ≡ overwrite l start (rows k n f)
   rows-all t k m h e = e ∙ ap (λ (j : ℕ). overwrite l start (rows j n f)) h

@@ -69,12 +69,21 @@ pub and-true : (s t : Bool) → s && t ≡ true → (s ≡ true) × (t ≡ true)
 and-true true t e = (refl, e)
 and-true false t e = absurd (false≢true e)
 
+pub true-within : (a b x : ℕ) → a ≤ x → x ≤ b → within a b x ≡ true
+true-within a b x h l = rw (le-leb a x h, le-leb x b l)
+
 pub within-true : (a b x : ℕ) → within a b x ≡ true → (a ≤ x) × (x ≤ b)
 within-true a b x h =
     let e = and-true (leb a x) (leb x b) h in
     (leb-true a x (e .0), leb-true x b (e .1))
 
 -- ---- one check after the other
+
+pub not-both : {A : Type 0} {a : A} {code position : ℕ} → _≡_ {A = Verdict A} (accepted a) (refused code position) → ⊥
+not-both d = let z : _≡_ {A = ℕ} 0 1 = cc in omega arith
+
+pub same-answer : {A : Type 0} {a b : A} → _≡_ {A = Verdict A} (accepted a) (accepted b) → a ≡ b
+same-answer d = cc
 
 module _ {A : Type 0} (a : A) where
   pub pass : (c : Check) (cs : List Check) → c .holds ≡ true → verdict (c ∷ cs) a ≡ verdict cs a
@@ -139,24 +148,34 @@ accepts a (c ∷ cs) h = pass a c cs (h .0) ∙ accepts a cs (h .1)
 
 pub accepted-holds : {A : Type 0} (a b : A) (cs : List Check) → verdict cs a ≡ accepted b → Hold cs
 accepted-holds a b [] e = tt
-accepted-holds {A} a b (c ∷ cs) e = go (accepted-holds a b cs) (c .holds) refl
+accepted-holds a b (c ∷ cs) e = go (accepted-holds a b cs) (c .holds) refl
   where
     go : (verdict cs a ≡ accepted b → Hold cs) → (t : Bool) → c .holds ≡ t → Hold (c ∷ cs)
     go ih true h = (h, ih (sym (pass a c cs h) ∙ e))
     go ih false h =
-        let d : _≡_ {A = Verdict A} (refused (c .code) (c .position)) (accepted b) = sym (fail a c cs h) ∙ e in
-        absurd (let z : _≡_ {A = ℕ} 0 1 = cc in omega arith)
+        absurd (not-both (sym e ∙ fail a c cs h))
+
+-- an accepted call answers what its checks were put before
+pub accepted-answer : {A : Type 0} (a b : A) (cs : List Check) → verdict cs a ≡ accepted b → b ≡ a
+accepted-answer a b cs e = same-answer (sym e ∙ accepts a cs (accepted-holds a b cs e))
 
 -- where the first of two parts holds, the second decides
 pub passes-part : {A : Type 0} (a : A) (cs ds : List Check) → Hold cs → verdict (cs ++ ds) a ≡ verdict ds a
 passes-part a [] ds h = refl
 passes-part a (c ∷ cs) ds h = pass a c (cs ++ ds) (h .0) ∙ passes-part a cs ds (h .1)
 
+-- where the second holds, the first decides
+pub passes-behind : {A : Type 0} (a : A) (cs ds : List Check) → Hold ds → verdict (cs ++ ds) a ≡ verdict cs a
+passes-behind a [] ds h = accepts a ds h ∙ sym (pass-all a)
+passes-behind a (c ∷ cs) ds h = go (passes-behind a cs ds h) (c .holds) refl
+  where
+    go : verdict (cs ++ ds) a ≡ verdict cs a → (t : Bool) → c .holds ≡ t → verdict (c ∷ (cs ++ ds)) a ≡ verdict (c ∷ cs) a
+    go ih true e = pass a c (cs ++ ds) e ∙ ih ∙ sym (pass a c cs e)
+    go ih false e = fail a c (cs ++ ds) e ∙ sym (fail a c cs e)
+
 -- a refusal does not depend on what the call would answer, nor on the checks behind
 pub refuses : {A B : Type 0} (a : A) (b : B) (code position : ℕ) (cs ds : List Check) → verdict cs a ≡ refused code position → verdict (cs ++ ds) b ≡ refused code position
-refuses {A} a b code position [] ds e =
-    let d : _≡_ {A = Verdict A} (accepted a) (refused code position) = sym (pass-all a) ∙ e in
-    absurd (let z : _≡_ {A = ℕ} 0 1 = cc in omega arith)
+refuses a b code position [] ds e = absurd (not-both (sym (pass-all a) ∙ e))
 refuses {A} {B} a b code position (c ∷ cs) ds e = go (refuses a b code position cs ds) (c .holds) refl
   where
     go : (verdict cs a ≡ refused code position → verdict (cs ++ ds) b ≡ refused code position) → (t : Bool) → c .holds ≡ t → verdict (c ∷ (cs ++ ds)) b ≡ refused code position
@@ -167,9 +186,21 @@ refuses {A} {B} a b code position (c ∷ cs) ds e = go (refuses a b code positio
         let j : c .position ≡ position = cc in
         fail b c (cs ++ ds) h ∙ rw (i, j)
 
+pub refuses-alike : {A B : Type 0} (a : A) (b : B) (code position : ℕ) (cs : List Check) → verdict cs a ≡ refused code position → verdict cs b ≡ refused code position
+refuses-alike a b code position cs e = ap (λ (ds : List Check). verdict ds b) (sym (append-nil cs)) ∙ refuses a b code position cs [] e
+
 pub settled-answer : {A B : Type 0} (v : Verdict A) (before after : B) → settled v before after .answer ≡ v
 settled-answer (accepted a) before after = refl
 settled-answer (refused c p) before after = refl
+
+-- what an outcome says of the verdict
+pub settled-done : {A B : Type 0} (v : Verdict A) (before after : B) {a : A} {b : B} → record { answer = accepted a; buffers = b } ≡ settled v before after → (v ≡ accepted a) × (b ≡ after)
+settled-done (accepted a) before after e = (sym (ap (λ o. o .answer) e), ap (λ o. o .buffers) e)
+settled-done (refused c p) before after e = absurd (not-both (ap (λ o. o .answer) e))
+
+pub settled-refused : {A B : Type 0} (v : Verdict A) (before after : B) {b : B} {code position : ℕ} → record { answer = refused code position; buffers = b } ≡ settled v before after → (v ≡ refused code position) × (b ≡ before)
+settled-refused (accepted a) before after e = absurd (not-both (sym (ap (λ o. o .answer) e)))
+settled-refused (refused c p) before after e = (sym (ap (λ o. o .answer) e), ap (λ o. o .buffers) e)
 
 -- a call that passes every check is accepted, and leaves what it wrote
 pub settled-accepted : {A B : Type 0} (a : A) (cs : List Check) (before after : B) → Hold cs → settled (verdict cs a) before after ≡ record { answer = accepted a; buffers = after }
@@ -208,14 +239,14 @@ module _ (cs : List Check) (r : Checked) (e : checkedReading r ≡ checked cs) w
   checks-passed a p = accepts a cs (checks-hold p)
 
   pub checks-failed : {A : Type 0} (a : A) (f : Refusal) → r ≡ Failed f → verdict cs a ≡ refusalReading f
-  checks-failed a f p = ap (λ (ds : List Check). verdict ds a) (sym (append-nil cs)) ∙ refuses tt a (f .code) (f .position) cs [] (sym e ∙ ap checkedReading p)
+  checks-failed a f p = refuses-alike tt a (f .code) (f .position) cs (sym e ∙ ap checkedReading p)
 
   -- they are the first part of a longer list
-  pub part-passed : (ds : List Check) → r ≡ Passed → checked (cs ++ ds) ≡ checked ds
-  part-passed ds p = passes-part tt cs ds (checks-hold p)
+  pub part-passed : {A : Type 0} (a : A) (ds : List Check) → r ≡ Passed → verdict (cs ++ ds) a ≡ verdict ds a
+  part-passed a ds p = passes-part a cs ds (checks-hold p)
 
-  pub part-failed : (ds : List Check) (f : Refusal) → r ≡ Failed f → checkedReading (Failed f) ≡ checked (cs ++ ds)
-  part-failed ds f p = sym (refuses tt tt (f .code) (f .position) cs ds (sym e ∙ ap checkedReading p))
+  pub part-failed : {A : Type 0} (a : A) (ds : List Check) (f : Refusal) → r ≡ Failed f → refusalReading f ≡ verdict (cs ++ ds) a
+  part-failed a ds f p = sym (refuses tt a (f .code) (f .position) cs ds (sym e ∙ ap checkedReading p))
 
   pub settles-accepted : {A B : Type 0} (a : A) (before after : B) → r ≡ Passed → record { answer = accepted a; buffers = after } ≡ settled (verdict cs a) before after
   settles-accepted a before after p = sym (settled-accepted a cs before after (checks-hold p))

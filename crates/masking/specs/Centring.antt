@@ -12,13 +12,14 @@ use Rattle.checks.specs.Laws.{accepts}
 use Rattle.masking.specs.Signed.{centredValue, centreChecks, centred}
 
 module _ (k q : ℕ) (h : 2 * k + 1 ≤ q) where
-  value : (z : ℤ) → natAbs z ≤ k → centredValue q (reduceℤ q z) ≡ z
+  -- for a sample z from -k to k, at any q of at least 2k + 1
+  pub centred-value : (z : ℤ) → natAbs z ≤ k → centredValue q (reduceℤ q z) ≡ z
   unfolding reduceℤ
-  value (pos a) l =
+  centred-value (pos a) l =
       let s : a < q = omega arith in
       let t : 2 * a < q = omega arith in
       rw (reduce-small q s, lt-ltb (2 * a) q t)
-  value (negsuc a) l =
+  centred-value (negsuc a) l =
       let t : q ≤ 2 * (q - suc a) = omega arith in
       let e : q - suc (q - suc a) ≡ a = omega arith in
       rw (neg-small q (suc a) (omega arith) (omega arith), le-ltb (2 * (q - suc a)) q t) (minus-below (q - suc a) q (omega arith) ∙ ap negsuc e)
@@ -28,8 +29,7 @@ module _ (k q : ℕ) (h : 2 * k + 1 ≤ q) where
   reduced (pos a) = reduce-lt q (omega arith) a
   reduced (negsuc a) = rw (← reduce-neg q (suc a)) (reduce-lt q (omega arith) (neg q (suc a)))
 
-  -- for a sample z from -k to k, at any q of at least 2k + 1
   pub centred-sample : 1 ≤ k → (z : ℤ) → natAbs z ≤ k → centred q (reduceℤ q z) ≡ accepted z
   unfolding centred
   centred-sample p z l =
-      accepts (centredValue q (reduceℤ q z)) (centreChecks q (reduceℤ q z)) (le-leb 3 q (omega arith), (lt-ltb (reduceℤ q z) q (reduced z), tt)) ∙ ap accepted (value z l)
+      accepts (centredValue q (reduceℤ q z)) (centreChecks q (reduceℤ q z)) (le-leb 3 q (omega arith), (lt-ltb (reduceℤ q z) q (reduced z), tt)) ∙ ap accepted (centred-value z l)

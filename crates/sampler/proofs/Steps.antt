@@ -20,22 +20,8 @@ use Rattle.checks.specs.Width.{bit, bit-lt}
 use Rattle.conversion.specs.Conversion.{convertBit, bitWords}
 use Rattle.conversion.specs.Laws.{convertBit-local}
 use Rattle.conversion.specs.Arrays.{Drawn}
-use Rattle.sampler.specs.Sampler.{bitsAt, row, stringShare, sampleShare, sampleShares, sampleWords, workLength}
+use Rattle.sampler.specs.Sampler.{bitsAt, row, stringShare, sampleShare, sampleShares, workLength}
 use Rattle.sampler.specs.Columns.{columnShare}
-
--- the numbers that the code computes are small
-pub record Small (n k : ℕ) : Type 0 where
-  pub bits : 2 * k ≤ 32
-  pub per : bitWords n ≤ 64
-  pub words : sampleWords n k ≤ 2048
-  pub rows : workLength n k ≤ 256
-
-pub small : (n k : ℕ) → n ≤ 8 → k ≤ 16 → Small n k
-small n k h l =
-    let b : 2 * k ≤ 32 = omega arith in
-    let m : n - 1 ≤ 8 = omega arith in
-    let p : bitWords n ≤ 64 = N.mul-le-mul h m in
-    record { bits = b; per = p; words = N.mul-le-mul b p; rows = N.mul-le-mul b h }
 
 -- ---- the bits of the shares
 
@@ -86,7 +72,7 @@ module _ (k n : ℕ) (f g : ℕ → ℕ → ℕ) where
     unfolding both-rows
     filled =
         let m : k * n ≡ 0 + length (rows k n f) = omega (arith, length-rows k n f) in
-        d ∙ rw (e, m) (overwrite-append before 0 (rows k n f) (rows k n g) (omega arith))
+        d ∙ rw (e, m) (overwrite-append before 0 (rows k n f) (rows k n g))
 
     filled-at : (p : ℕ) → p < workLength n k → at work p ≡ at both-rows p
     filled-at p h = ap (λ (l : List ℕ). at l p) filled ∙ front-below before both-rows p (omega (arith, length-both))

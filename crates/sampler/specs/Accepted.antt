@@ -1,16 +1,32 @@
 -- What it means, in plain facts, that a call passes its checks.
 use mathlib.Core.Path.{_≡_}
 use mathlib.Core.List.{List}
-use Prim.Native.Nat.{ℕ, _+_, _*_, _^_, _≤_, _<_}
+use Prim.Native.Nat.{ℕ, _+_, _-_, _*_, _^_, _≤_, _<_}
+use native.Mathlib.Nat as N
 use native.Mathlib.Omega.{arith}
 use borrow.Author.Tests.{leb-true, le-leb, eqb-true}
 use lib.ListN.{length}
 use Rattle.residue.specs.Residue.{EachBelow}
 use Rattle.checks.specs.Checks.{wordChecks}
 use Rattle.checks.specs.Laws.{Hold, hold-front, hold-rest, hold-both, within-true, none-each-below}
+use Rattle.conversion.specs.Conversion.{bitWords}
 use Rattle.conversion.specs.Arrays.{Drawn, words-drawn, drawn-words}
-use Rattle.sampler.specs.Sampler.{sampleWords, pairChecks, roomChecks, bufferChecks, sampleChecks}
+use Rattle.sampler.specs.Sampler.{sampleWords, workLength, pairChecks, roomChecks, bufferChecks, sampleChecks}
 use Rattle.sampler.specs.Secrecy.{Room}
+
+-- the numbers that the code computes are small
+pub record Small (n k : ℕ) : Type 0 where
+  pub bits : 2 * k ≤ 32
+  pub per : bitWords n ≤ 64
+  pub words : sampleWords n k ≤ 2048
+  pub rows : workLength n k ≤ 256
+
+pub small : (n k : ℕ) → n ≤ 8 → k ≤ 16 → Small n k
+small n k h l =
+    let b : 2 * k ≤ 32 = omega arith in
+    let m : n - 1 ≤ 8 = omega arith in
+    let p : bitWords n ≤ 64 = N.mul-le-mul h m in
+    record { bits = b; per = p; words = N.mul-le-mul b p; rows = N.mul-le-mul b h }
 
 -- two strings of k bits, each in n shares
 pub record SharedPair (n k q : ℕ) (x y : List ℕ) : Type 0 where

@@ -1,21 +1,41 @@
 -- The shares of a sample, opened and centred, give what the plain weight difference of the opened strings gives.
 use mathlib.Core.Path.{_≡_, sym, ap, _∙_}
 use mathlib.Core.List.{List}
-use Prim.Native.Nat.{ℕ, _^_, _<_}
+use Prim.Native.Nat.{ℕ, _^_, _≤_, _<_}
+use lib.IntN.{natAbs}
 use lib.ListN.{length, take}
 use borrow.Author.Tests.{le-leb, lt-ltb, eq-eqb}
-use Rattle.residue.specs.Residue.{reduceℤ}
+use Rattle.residue.specs.Residue.{reduce, reduceℤ, total}
 use Rattle.residue.specs.Integers.{minus-le}
 use Rattle.checks.specs.Checks.{accepted, isNone}
 use Rattle.checks.specs.Laws.{Hold, hold-front, accepts, each-below-none}
 use Rattle.masking.specs.Sharing.{xorAll, openResidueChecks, openedResidue, openStringChecks, openedString}
-use Rattle.masking.specs.Signed.{weight, differenceOfWeights, centred, weightChecks, weightDifference}
+use Rattle.masking.specs.Signed.{weight, differenceOfWeights, centredValue, centred, weightChecks, weightDifference}
 use Rattle.masking.specs.Weight.{weight-le}
 use Rattle.masking.specs.Xor.{xorAll-lt}
-use Rattle.masking.specs.Centring.{centred-sample}
+use Rattle.masking.specs.Centring.{centred-value, centred-sample}
 use Rattle.sampler.specs.Sampler.{sampleShares, pairChecks, bufferChecks, sampleChecks, sampled}
 use Rattle.sampler.specs.Accepted.{SharedPair, pair-large, call-pair}
 use Rattle.sampler.specs.Calls.{length-shares, shares-below, shares-residue, call-shares}
+
+-- ---- of strings that pass their checks
+
+module _ {n k q : ℕ} {x y : List ℕ} (P : SharedPair n k q x y) where
+  x-lt : xorAll x < 2 ^ k
+  x-lt = xorAll-lt k x (P .x-narrow)
+
+  y-lt : xorAll y < 2 ^ k
+  y-lt = xorAll-lt k y (P .y-narrow)
+
+  -- the sample is from -k to k
+  pub sample-le : natAbs (differenceOfWeights (xorAll x) (xorAll y)) ≤ k
+  sample-le = minus-le k (weight (xorAll x)) (weight (xorAll y)) (weight-le k (xorAll x) (P .sixteen) x-lt) (weight-le k (xorAll y) (P .sixteen) y-lt)
+
+  -- the residue of the shares, centred, is the sample
+  pub shares-centred : (words : List ℕ) → centredValue q (reduce q (total (sampleShares n k q x y words))) ≡ differenceOfWeights (xorAll x) (xorAll y)
+  shares-centred words = ap (centredValue q) (shares-residue P words) ∙ centred-value k q (P .modulus) (differenceOfWeights (xorAll x) (xorAll y)) sample-le
+
+-- ---- of a call that passes its checks
 
 module _ (n k q : ℕ) (x y words out work : List ℕ) (h : Hold (sampleChecks n k q x y words (length out) (length work))) where
   pair : SharedPair n k q x y
@@ -33,16 +53,10 @@ module _ (n k q : ℕ) (x y words out work : List ℕ) (h : Hold (sampleChecks n
   unfolding openedString
   y-opened = accepts (xorAll y) (openStringChecks n k y) (pairs-hold .0, (pairs-hold .1 .0, (pairs-hold .1 .1 .1 .1 .0, (pairs-hold .1 .1 .1 .1 .1 .1 .0, tt))))
 
-  x-lt : xorAll x < 2 ^ k
-  x-lt = xorAll-lt k x (pair .x-narrow)
-
-  y-lt : xorAll y < 2 ^ k
-  y-lt = xorAll-lt k y (pair .y-narrow)
-
   -- their plain weight difference
   pub plain-difference : weightDifference k (xorAll x) (xorAll y) ≡ accepted (differenceOfWeights (xorAll x) (xorAll y))
   unfolding weightDifference
-  plain-difference = accepts _ (weightChecks k (xorAll x) (xorAll y)) (pairs-hold .1 .0, (lt-ltb _ _ x-lt, (lt-ltb _ _ y-lt, tt)))
+  plain-difference = accepts _ (weightChecks k (xorAll x) (xorAll y)) (pairs-hold .1 .0, (lt-ltb _ _ (x-lt pair), (lt-ltb _ _ (y-lt pair), tt)))
 
   -- the shares open to its residue
   pub shares-opened : openedResidue n q (take n (sampled n k q x y words out work .buffers .out)) ≡ accepted (reduceℤ q (differenceOfWeights (xorAll x) (xorAll y)))
@@ -55,5 +69,5 @@ module _ (n k q : ℕ) (x y words out work : List ℕ) (h : Hold (sampleChecks n
   -- which, centred, is the difference
   pub residue-centred : centred q (reduceℤ q (differenceOfWeights (xorAll x) (xorAll y))) ≡ weightDifference k (xorAll x) (xorAll y)
   residue-centred =
-      centred-sample k q (pair .modulus) (pair .one) (differenceOfWeights (xorAll x) (xorAll y)) (minus-le k (weight (xorAll x)) (weight (xorAll y)) (weight-le k (xorAll x) (pair .sixteen) x-lt) (weight-le k (xorAll y) (pair .sixteen) y-lt))
+      centred-sample k q (pair .modulus) (pair .one) (differenceOfWeights (xorAll x) (xorAll y)) (sample-le pair)
       ∙ sym plain-difference

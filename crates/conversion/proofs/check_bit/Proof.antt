@@ -35,7 +35,7 @@ one s = ap (λ m. checked (wordChecks m (s .args .q) (s .args .words .now))) (on
 past6 : (c : tie.After-enum-told2) → Past (checks (c .before .before .before .before .before .before .before .before .before .before .before .before)) 6
 past6 c =
     past4 (c .before .before .before)
-    ∙ part-passed _ _ (c .before .before .check-words .ensures ∙ one (c .before .before .before .before .before .before .before .before .before .before .before .before)) _ (c .enum-told2 .given .1)
+    ∙ part-passed _ _ (c .before .before .check-words .ensures ∙ one (c .before .before .before .before .before .before .before .before .before .before .before .before)) tt _ (c .enum-told2 .given .1)
 
 past7 : (c : tie.Else4) → Past (checks (c .before .before .before .before .before .before .before .before .before .before .before .before .before)) 7
 past7 c = past6 (c .before) ∙ pass tt _ _ (le-leb _ _ (c .if4 .left))
@@ -97,7 +97,7 @@ enum-known-r c = search needs
 
 returns-5 : tie.Need-returns-5
 returns-5 c =
-    part-failed _ _ (c .before .before .before .check-words .ensures ∙ one (c .before .before .before .before .before .before .before .before .before .before .before .before .before)) _ _ (c .before .r .given .1)
+    part-failed _ _ (c .before .before .before .check-words .ensures ∙ one (c .before .before .before .before .before .before .before .before .before .before .before .before .before)) tt _ _ (c .before .r .given .1)
     ∙ sym (past4 (c .before .before .before .before))
 
 enum-told-2 : tie.Need-enum-told-2

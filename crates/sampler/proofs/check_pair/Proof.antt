@@ -14,7 +14,7 @@ abbrev checks : tie.Start → List Check
 checks s = pairChecks (s .args .n) (s .args .k) (s .args .q) (s .args .x .now) (s .args .y .now)
 
 past3 : (c : tie.After-enum-told) → Past (checks (c .before .before .before .before .before)) 3
-past3 c = part-passed _ _ (c .before .before .check-parameters .ensures) _ (c .enum-told .given .1)
+past3 c = part-passed _ _ (c .before .before .check-parameters .ensures) tt _ (c .enum-told .given .1)
 
 past4 : (c : tie.Else1) → Past (checks (c .before .before .before .before .before .before)) 4
 past4 c = past3 (c .before) ∙ pass tt _ _ (eq-eqb _ _ (c .if1 .left))
@@ -41,7 +41,7 @@ enum-known-r : tie.Need-enum-known-r
 enum-known-r c = search needs
 
 returns : tie.Need-returns
-returns c = part-failed _ _ (c .before .before .before .check-parameters .ensures) _ _ (c .before .r .given .1)
+returns c = part-failed _ _ (c .before .before .before .check-parameters .ensures) tt _ _ (c .before .r .given .1)
 
 enum-told : tie.Need-enum-told
 enum-told c = search needs

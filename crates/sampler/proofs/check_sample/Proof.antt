@@ -7,8 +7,7 @@ use borrow.Author.Needs.{needs}
 use Rattle.checks.specs.Checks.{Check}
 use Rattle.checks.specs.Laws.{Past, pass, fail, pass-all, checks-hold, part-passed, part-failed}
 use Rattle.sampler.specs.Sampler.{sampleChecks}
-use Rattle.sampler.specs.Accepted.{SharedPair, shared-pair}
-use Rattle.sampler.proofs.Steps.{Small, small}
+use Rattle.sampler.specs.Accepted.{Small, small, SharedPair, shared-pair}
 use Rattle.sampler.proofs.check_sample.Statement.{statement}
 use Rattle.sampler.proofs.check_sample.Tie as tie
 
@@ -16,10 +15,10 @@ abbrev checks : tie.Start → List Check
 checks s = sampleChecks (s .args .n) (s .args .k) (s .args .q) (s .args .x .now) (s .args .y .now) (s .args .words .now) (s .args .room) (s .args .area)
 
 past7 : (c : tie.After-enum-told) → Past (checks (c .before .before .before .before .before .before)) 7
-past7 c = part-passed _ _ (c .before .before .check-pair .ensures) _ (c .enum-told .given .1)
+past7 c = part-passed _ _ (c .before .before .check-pair .ensures) tt _ (c .enum-told .given .1)
 
 past9 : (c : tie.After-enum-told2) → Past (checks (c .before .before .before .before .before .before .before .before .before)) 9
-past9 c = past7 (c .before .before .before) ∙ part-passed _ _ (c .before .before .check-words .ensures) _ (c .enum-told2 .given .1)
+past9 c = past7 (c .before .before .before) ∙ part-passed _ _ (c .before .before .check-words .ensures) tt _ (c .enum-told2 .given .1)
 
 past10 : (c : tie.Else1) → Past (checks (c .before .before .before .before .before .before .before .before .before .before)) 10
 past10 c = past9 (c .before) ∙ pass tt _ _ (le-leb _ _ (c .if1 .left))
@@ -41,7 +40,7 @@ enum-known-r : tie.Need-enum-known-r
 enum-known-r c = search needs
 
 returns : tie.Need-returns
-returns c = part-failed _ _ (c .before .before .before .check-pair .ensures) _ _ (c .before .r .given .1)
+returns c = part-failed _ _ (c .before .before .before .check-pair .ensures) tt _ _ (c .before .r .given .1)
 
 enum-told : tie.Need-enum-told
 enum-told c = search needs
@@ -62,7 +61,7 @@ enum-known-r-2 : tie.Need-enum-known-r-2
 enum-known-r-2 c = search needs
 
 returns-2 : tie.Need-returns-2
-returns-2 c = part-failed _ _ (c .before .before .before .check-words .ensures) _ _ (c .before .r2 .given .1) ∙ sym (past7 (c .before .before .before .before))
+returns-2 c = part-failed _ _ (c .before .before .before .check-words .ensures) tt _ _ (c .before .r2 .given .1) ∙ sym (past7 (c .before .before .before .before))
 
 enum-told-2 : tie.Need-enum-told-2
 enum-told-2 c = search needs

@@ -83,7 +83,7 @@ loop-again c =
     let s = c .before .before .before .before .before .before .before .before .before .before .before .before .before in
     let l = c .before .before .before .before .before .before .before .before .before .loop in
     let e = row-done _ _ (l .t) (s .args .shares .now) _ (s .pre .3 .large) (held (c .before .before .before .before .before .before)) (s .args .start) _ (s .args .words .now) (omega arith) refl in
-    (omega arith, c .before .before .convert-at .ensures ∙ rows-next _ _ _ _ _ _ _ (l .inv .1) e (omega (arith, next-row (c .before .before .before .before .before .before .before .before))))
+    (omega arith, c .before .before .convert-at .ensures ∙ rows-next _ _ _ _ _ _ _ (l .inv .1) e)
 
 same-length : tie.Need-same-length Inv-loop μ-loop
 same-length c =

@@ -7,9 +7,8 @@ use Rattle.checks.specs.declared.Answer.the-variants.{Done}
 use Rattle.checks.specs.Answers.{outcome}
 use Rattle.checks.specs.Laws.{Hold, checks-hold, settles-accepted, settles-refused}
 use Rattle.sampler.specs.Sampler.{sampleWords, sampleChecks, both, sampled}
-use Rattle.sampler.specs.Accepted.{SharedPair, pair-large, call-pair, call-drawn, call-room}
+use Rattle.sampler.specs.Accepted.{Small, small, SharedPair, pair-large, call-pair, call-drawn, call-room}
 use Rattle.sampler.specs.SecrecyProof.{secrecy}
-use Rattle.sampler.proofs.Steps.{Small, small}
 use Rattle.sampler.proofs.sample.Statement.{statement}
 use Rattle.sampler.proofs.sample.Tie as tie
 

@@ -6,8 +6,9 @@ use borrow.Author.Needs.{needs}
 use Rattle.buffers.specs.Overwrite.{overwrite}
 use Rattle.conversion.specs.Conversion.{bitWords}
 use Rattle.conversion.specs.Arrays.{drawn-part}
+use Rattle.sampler.specs.Accepted.{Small, small}
 use Rattle.sampler.specs.Laws.{row-lt}
-use Rattle.sampler.proofs.Steps.{Small, small, filled-drawn, filled-zeroed, columns-shares}
+use Rattle.sampler.proofs.Steps.{filled-drawn, filled-zeroed, columns-shares}
 use Rattle.sampler.proofs.write_sample.Statement.{statement}
 use Rattle.sampler.proofs.write_sample.Tie as tie
 

@@ -1,0 +1,155 @@
+-- The lists and RW are copied out of the file, and the sampler says the rest.
+use mathlib.Core.Path.{_≡_, sym, ap, _∙_}
+use Prim.Native.Nat.{_+_, _≤_}
+use native.Mathlib.Omega.{arith}
+use lib.ListN.{length, take}
+use Rattle.checks.specs.Answers.{outcome}
+use Rattle.checks.specs.Laws.{within-true}
+use Rattle.sampler.specs.Sampler.{both, sampled}
+use Rattle.lesson_file.specs.Records.{wordsFrom, Sample, sampleOf}
+use Rattle.lesson_file.specs.RecordLaws.{length-words, words-taken, words-length}
+use Rattle.lesson.specs.Call.{lent}
+use Rattle.lesson.specs.SamplerLaws.{judged-done, judged-refused}
+use borrow.Author.Needs.{needs}
+use Rattle.lesson.proofs.make_sample.Statement.{statement}
+use Rattle.lesson.proofs.make_sample.Tie as tie
+
+eight : (s : tie.Start) → s .args .layout .parameters .n ≤ 8
+eight s = within-true 2 8 _ (s .pre .0 .parameters .0) .1
+
+x : (c : tie.After-copy-shares) → take (c .before .before .before .before .before .before .before .before .before .args .layout .parameters .n) (c .copy-shares .last .1 .1 .1 .0) ≡ wordsFrom (c .before .before .before .before .before .before .before .before .before .args .file .now) (c .before .before .before .before .before .before .before .before .before .args .layout .lists .x + 2) (c .before .before .before .before .before .before .before .before .before .args .layout .parameters .n)
+x c = words-taken _ _ _ _ _ (c .copy-shares .ensures)
+
+y : (c : tie.After-copy-shares2) → take (c .before .before .before .before .before .before .before .before .before .before .before .before .before .args .layout .parameters .n) (c .copy-shares2 .last .1 .1 .1 .0) ≡ wordsFrom (c .before .before .before .before .before .before .before .before .before .before .before .before .before .args .file .now) (c .before .before .before .before .before .before .before .before .before .before .before .before .before .args .layout .lists .y + 2) (c .before .before .before .before .before .before .before .before .before .before .before .before .before .args .layout .parameters .n)
+y c = words-taken _ _ _ _ _ (c .copy-shares2 .ensures)
+
+words : (c : tie.After-copy-words) → take (c .before .before .before .before .before .before .before .before .before .before .before .before .before .before .before .before .before .args .layout .count) (c .copy-words .last .1 .1 .1 .0) ≡ wordsFrom (c .before .before .before .before .before .before .before .before .before .before .before .before .before .before .before .before .before .args .file .now) (c .before .before .before .before .before .before .before .before .before .before .before .before .before .before .before .before .before .args .layout .lists .next .at + 4) (c .before .before .before .before .before .before .before .before .before .before .before .before .before .before .before .before .before .args .layout .count)
+words c = words-taken _ _ _ _ _ (c .copy-words .ensures)
+
+fits : (s : tie.Start) → s .args .layout .count ≤ length (s .args .words .now)
+fits s = omega (arith, s .pre .0 .limit, s .pre .1 .word-room)
+
+abbrev sample : tie.Start → Sample
+sample s = sampleOf (s .args .file .now) (s .args .layout)
+
+-- the sampler was lent what the file says
+sampler : (c : tie.After-sample) → outcome (c .sample .result) (both (c .sample .last .1 .1 .1 .1 .1 .1 .0) (c .sample .last .1 .1 .1 .1 .1 .1 .1 .0)) ≡ sampled (sample (c .before .before .before .before .before .before .before .before .before .before .before .before .before .before .before .before .before .before .before .before .before .before .before .before .before) .n) (sample (c .before .before .before .before .before .before .before .before .before .before .before .before .before .before .before .before .before .before .before .before .before .before .before .before .before) .k) (sample (c .before .before .before .before .before .before .before .before .before .before .before .before .before .before .before .before .before .before .before .before .before .before .before .before .before) .q) (sample (c .before .before .before .before .before .before .before .before .before .before .before .before .before .before .before .before .before .before .before .before .before .before .before .before .before) .x) (sample (c .before .before .before .before .before .before .before .before .before .before .before .before .before .before .before .before .before .before .before .before .before .before .before .before .before) .y) (sample (c .before .before .before .before .before .before .before .before .before .before .before .before .before .before .before .before .before .before .before .before .before .before .before .before .before) .words) (c .before .before .before .before .before .before .before .before .before .before .before .before .before .before .before .before .before .before .before .before .before .before .before .before .before .args .out .now) (c .before .before .before .before .before .before .before .before .before .before .before .before .before .before .before .before .before .before .before .before .before .before .before .before .before .args .work .now)
+unfolding sampleOf
+sampler c = rw (x (c .before .before .before .before .before .before .before .before .before .before .before .before .before .before .before .before), y (c .before .before .before .before .before .before .before .before .before .before .before .before), words (c .before .before .before .before .before .before .before .before)) at (c .sample .ensures .0)
+
+add-copy-shares : tie.Need-add-copy-shares
+add-copy-shares c = search needs
+
+slice-aggregate-copy-shares : tie.Need-slice-aggregate-copy-shares
+slice-aggregate-copy-shares c = search needs
+
+copy-shares-requires : tie.Need-copy-shares-requires
+copy-shares-requires c κs = (c .before .before .before .before .before .before .before .before .pre .0 .x, eight (c .before .before .before .before .before .before .before .before))
+
+add-copy-shares-2 : tie.Need-add-copy-shares-2
+add-copy-shares-2 c = search needs
+
+slice-aggregate-copy-shares-2 : tie.Need-slice-aggregate-copy-shares-2
+slice-aggregate-copy-shares-2 c = search needs
+
+copy-shares-requires-2 : tie.Need-copy-shares-requires-2
+copy-shares-requires-2 c κs = (c .before .before .before .before .before .before .before .before .before .before .before .before .pre .0 .y, eight (c .before .before .before .before .before .before .before .before .before .before .before .before))
+
+add-copy-words : tie.Need-add-copy-words
+add-copy-words c = search needs
+
+copy-words-requires : tie.Need-copy-words-requires
+copy-words-requires c κs = (c .before .before .before .before .before .before .before .before .before .before .before .before .before .before .before .before .pre .0 .words, fits (c .before .before .before .before .before .before .before .before .before .before .before .before .before .before .before .before))
+
+array-share-prefix-x : tie.Need-array-share-prefix-x
+array-share-prefix-x c = omega (arith, eight (c .before .before .before .before .before .before .before .before .before .before .before .before .before .before .before .before .before .before .before))
+
+slice-aggregate-sample : tie.Need-slice-aggregate-sample
+slice-aggregate-sample c = sym (ap length (x (c .before .before .before .before .before .before .before .before .before .before .before)) ∙ length-words _ _ _)
+
+array-share-prefix-y : tie.Need-array-share-prefix-y
+array-share-prefix-y c = omega (arith, eight (c .before .before .before .before .before .before .before .before .before .before .before .before .before .before .before .before .before .before .before .before))
+
+slice-aggregate-sample-2 : tie.Need-slice-aggregate-sample-2
+slice-aggregate-sample-2 c = sym (ap length (y (c .before .before .before .before .before .before .before .before)) ∙ length-words _ _ _)
+
+slice-reshare-prefix-sample : tie.Need-slice-reshare-prefix-sample
+slice-reshare-prefix-sample c = omega (arith, fits (c .before .before .before .before .before .before .before .before .before .before .before .before .before .before .before .before .before .before .before .before .before), words-length _ _ _ _ _ (c .before .before .before .before .copy-words .ensures) (fits (c .before .before .before .before .before .before .before .before .before .before .before .before .before .before .before .before .before .before .before .before .before)))
+
+slice-aggregate-sample-3 : tie.Need-slice-aggregate-sample-3
+slice-aggregate-sample-3 c = sym (ap length (words (c .before .before .before .before .before)) ∙ length-words _ _ _)
+
+sample-requires : tie.Need-sample-requires
+sample-requires c κs = search needs
+
+enum-known-used : tie.Need-enum-known-used
+enum-known-used c = search needs
+
+enum-known-r : tie.Need-enum-known-r
+enum-known-r c = search needs
+
+record-of-requires : tie.Need-record-of-requires
+record-of-requires c κs = search needs
+
+same-length : tie.Need-same-length
+same-length c = search needs
+
+same-length-2 : tie.Need-same-length-2
+same-length-2 c = search needs
+
+same-length-3 : tie.Need-same-length-3
+same-length-3 c = search needs
+
+returns : tie.Need-returns
+unfolding sampleOf
+returns c =
+    let s = c .before .before .before .before .before .before .before .before .before .before .before .before .before .before .before .before .before .before .before .before .before .before .before .before .before .before .before .before .before .before .before .before in
+    judged-done (s .args .file .now) (s .args .layout) (s .pre .0) (lent (s .args .words .now) (s .args .out .now) (s .args .work .now)) (s .pre .1) _ _ _ (c .before .before .before .before .before .before .before .before .before .before .before .before .before .before .before .copy-words .ensures) _ (sampler (c .before .before .before .before .before .before .before)) _
+    (c .before .used .given .1)
+
+same-length-4 : tie.Need-same-length-4
+same-length-4 c = search needs
+
+same-length-5 : tie.Need-same-length-5
+same-length-5 c = search needs
+
+same-length-6 : tie.Need-same-length-6
+same-length-6 c = search needs
+
+returns-2 : tie.Need-returns-2
+unfolding sampleOf
+returns-2 c =
+    let s = c .before .before .before .before .before .before .before .before .before .before .before .before .before .before .before .before .before .before .before .before .before .before .before .before .before .before .before .before .before .before .before .before .before in
+    judged-refused (s .args .file .now) (s .args .layout) (s .pre .0) (lent (s .args .words .now) (s .args .out .now) (s .args .work .now)) (s .pre .1) _ _ _ (c .before .before .before .before .before .before .before .before .before .before .before .before .before .before .before .before .copy-words .ensures) _ (sampler (c .before .before .before .before .before .before .before .before)) _ _
+    (c .before .before .r .given .1) (c .record-of .ensures)
+
+pub make-sample-spec : {M : Type 1} → statement M
+make-sample-spec =
+    tie.close
+    (tie.spec
+    add-copy-shares
+    slice-aggregate-copy-shares
+    copy-shares-requires
+    add-copy-shares-2
+    slice-aggregate-copy-shares-2
+    copy-shares-requires-2
+    add-copy-words
+    copy-words-requires
+    array-share-prefix-x
+    slice-aggregate-sample
+    array-share-prefix-y
+    slice-aggregate-sample-2
+    slice-reshare-prefix-sample
+    slice-aggregate-sample-3
+    sample-requires
+    enum-known-used
+    enum-known-r
+    record-of-requires
+    same-length
+    same-length-2
+    same-length-3
+    returns
+    same-length-4
+    same-length-5
+    same-length-6
+    returns-2)

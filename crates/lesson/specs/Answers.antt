@@ -1,0 +1,15 @@
+-- What document 01 says for each case of the answers in the code.
+use Rattle.checks.specs.Checks.{Verdict, accepted, Outcome}
+use Rattle.checks.specs.Answers.{refusalReading}
+use Rattle.lesson.specs.declared.Sampled.{Sampled}
+use Rattle.lesson.specs.declared.SampleAnswer.{SampleAnswer}
+use Rattle.lesson.specs.declared.SampleAnswer.the-variants as SampleAnswer
+use Rattle.lesson.specs.Call.{Lent}
+
+-- of a sample: its answer, and what the lent buffers hold after it
+abbrev pub sampledReading : SampleAnswer → Verdict Sampled
+sampledReading (SampleAnswer.Done s) = accepted s
+sampledReading (SampleAnswer.Refused r) = refusalReading r
+
+abbrev pub sampleOutcome : SampleAnswer → Lent → Outcome Sampled Lent
+sampleOutcome a after = record { answer = sampledReading a; buffers = after }

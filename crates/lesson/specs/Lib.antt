@@ -1,0 +1,9 @@
+pub mod Lesson
+pub mod Text
+pub mod Call
+pub mod Answers
+pub mod TextLaws
+pub mod SampleLaws
+pub mod SamplerLaws
+pub mod LessonLaws
+pub mod Room

@@ -1,0 +1,95 @@
+-- One answer for each check: those before it held, and it fails.
+use mathlib.Core.Path.{_≡_, sym, ap, _∙_}
+use mathlib.Core.List.{List}
+use Prim.Native.Nat.{ℕ, _+_, _*_, _≤_}
+use native.Mathlib.Omega.{arith}
+use borrow.Author.Tests.{leb-true, le-leb, lt-leb}
+use lib.Dec.{leb}
+use lib.ListN.{length, drop}
+use Rattle.checks.specs.Checks.{Check, accepted, verdict}
+use Rattle.checks.specs.Laws.{pass, fail, pass-all, checks-hold, part-passed, part-failed}
+use Rattle.lesson_file.specs.Records.{wordCount, wordsChecks}
+use Rattle.lesson_file.specs.RecordLaws.{bytes-left, bytes-missing}
+use borrow.Author.Needs.{needs}
+use Rattle.lesson_file.proofs.Cursor.read_words.Statement.{statement}
+use Rattle.lesson_file.proofs.Cursor.read_words.Tie as tie
+
+abbrev checks : tie.Start → List Check
+checks s = wordsChecks (s .args .file .now) (s .args .self .at)
+
+abbrev count : tie.Start → ℕ
+count s = wordCount (s .args .file .now) (s .args .self .at)
+
+abbrev Past : tie.Start → ℕ → Type 0
+Past s j = verdict (checks s) (count s) ≡ verdict (drop j (checks s)) (count s)
+
+past3 : (c : tie.After-enum-told) → Past (c .before .before .before .before) 3
+past3 c = part-passed _ _ (c .before .before .check-record .ensures) _ _ (c .enum-told .given .1)
+
+past4 : (c : tie.Else1) → Past (c .before .before .before .before .before .before) 4
+past4 c = past3 (c .before .before) ∙ pass _ _ _ (ap (λ m. leb m 1792) (sym (c .before .number-at .ensures)) ∙ le-leb _ _ (c .if1 .left))
+
+-- the mark and the count are there
+counted : (c : tie.After-enum-told) → c .before .before .before .before .args .self .at + 4 ≤ length (c .before .before .before .before .args .file .now)
+counted c = leb-true _ _ (checks-hold _ _ (c .before .before .check-record .ensures) (c .enum-told .given .1) .1 .1 .0)
+
+-- the file's length against the end of the words
+end : (s : tie.Start) (m : ℕ) → m ≡ count s → leb (s .args .self .at + (4 + 2 * count s)) (length (s .args .file .now)) ≡ leb (s .args .self .at + (4 + 2 * m)) (length (s .args .file .now))
+end s m e = ap (λ m. leb (s .args .self .at + (4 + 2 * m)) (length (s .args .file .now))) (sym e)
+
+check-record-requires : tie.Need-check-record-requires
+check-record-requires c κs = search needs
+
+enum-known-r : tie.Need-enum-known-r
+enum-known-r c = search needs
+
+returns : tie.Need-returns
+returns c = part-failed _ _ (c .before .before .before .check-record .ensures) _ _ _ (c .before .r .given .1)
+
+enum-told : tie.Need-enum-told
+enum-told c = search needs
+
+add-number-at : tie.Need-add-number-at
+add-number-at c = search needs
+
+number-at-requires : tie.Need-number-at-requires
+number-at-requires c κs = omega (arith, counted c)
+
+cast-count : tie.Need-cast-count
+cast-count c = search needs
+
+returns-2 : tie.Need-returns-2
+returns-2 c = sym (past3 (c .before .before) ∙ fail _ _ _ (ap (λ m. leb m 1792) (sym (c .before .number-at .ensures)) ∙ lt-leb _ _ (c .if1 .taken)))
+
+sub-if2 : tie.Need-sub-if2
+sub-if2 c = search needs
+
+mul-if2 : tie.Need-mul-if2
+mul-if2 c = search needs
+
+add-if2 : tie.Need-add-if2
+add-if2 c = search needs
+
+returns-3 : tie.Need-returns-3
+returns-3 c = sym (past4 (c .before) ∙ fail _ _ _ (end (c .before .before .before .before .before .before .before) _ (c .before .before .number-at .ensures) ∙ bytes-missing _ _ _ (c .if2 .taken)))
+
+returns-4 : tie.Need-returns-4
+returns-4 c = ap accepted (c .before .before .number-at .ensures) ∙ sym (past4 (c .before) ∙ pass _ _ _ (end (c .before .before .before .before .before .before .before) _ (c .before .before .number-at .ensures) ∙ bytes-left _ _ _ (c .before .before .before .before .before .before .before .pre) (c .if2 .left)) ∙ pass-all _)
+
+pub read-words-spec : {M : Type 1} → statement M
+read-words-spec =
+    tie.close
+    (tie.spec
+    check-record-requires
+    enum-known-r
+    returns
+    enum-told
+    add-number-at
+    number-at-requires
+    cast-count
+    returns-2
+    sub-if2
+    mul-if2
+    add-if2
+    returns-3
+    returns-4)

@@ -1,0 +1,48 @@
+-- The second record is looked at where the first is whole.
+use mathlib.Core.Path.{sym, _∙_}
+use borrow.Author.Tests.{leb-true}
+use Rattle.checks.specs.Laws.{checks-hold, part-passed, part-failed}
+use borrow.Author.Needs.{needs}
+use Rattle.lesson_file.proofs.check_lists.Statement.{statement}
+use Rattle.lesson_file.proofs.check_lists.Tie as tie
+
+mul-size : tie.Need-mul-size
+mul-size c = search needs
+
+add-size : tie.Need-add-size
+add-size c = search needs
+
+check-record-requires : tie.Need-check-record-requires
+check-record-requires c κs = search needs
+
+enum-known-r : tie.Need-enum-known-r
+enum-known-r c = search needs
+
+returns : tie.Need-returns
+returns c = part-failed _ _ (c .before .before .before .check-record .ensures) tt _ _ (c .before .r .given .1)
+
+enum-told : tie.Need-enum-told
+enum-told c = search needs
+
+add-check-record : tie.Need-add-check-record
+add-check-record c = search needs
+
+check-record-requires-2 : tie.Need-check-record-requires-2
+check-record-requires-2 c κs = leb-true _ _ (checks-hold _ _ (c .before .before .check-record .ensures) (c .enum-told .given .1) .1 .1 .0)
+
+returns-2 : tie.Need-returns-2
+returns-2 c = c .check-record2 .ensures ∙ sym (part-passed _ _ (c .before .before .before .check-record .ensures) tt _ (c .before .enum-told .given .1))
+
+pub check-lists-spec : {M : Type 1} → statement M
+check-lists-spec =
+    tie.close
+    (tie.spec
+    mul-size
+    add-size
+    check-record-requires
+    enum-known-r
+    returns
+    enum-told
+    add-check-record
+    check-record-requires-2
+    returns-2)

@@ -1,0 +1,55 @@
+-- The text is no longer than its buffer.
+use mathlib.Core.Path.{sym}
+use lib.Seq.{length-take-le}
+use borrow.Author.Needs.{needs}
+use Rattle.lesson_program.proofs.main.Statement.{statement}
+use Rattle.lesson_program.proofs.main.Tie as tie
+
+slice-aggregate-read-full : tie.Need-slice-aggregate-read-full
+slice-aggregate-read-full c = search needs
+
+read-full-requires : tie.Need-read-full-requires
+read-full-requires c κs = search needs
+
+array-share-prefix-file : tie.Need-array-share-prefix-file
+array-share-prefix-file c = search needs
+
+slice-aggregate-make-text : tie.Need-slice-aggregate-make-text
+slice-aggregate-make-text c = search needs
+
+slice-aggregate-make-text-2 : tie.Need-slice-aggregate-make-text-2
+slice-aggregate-make-text-2 c = search needs
+
+slice-aggregate-make-text-3 : tie.Need-slice-aggregate-make-text-3
+slice-aggregate-make-text-3 c = search needs
+
+make-text-requires : tie.Need-make-text-requires
+make-text-requires c κs = search needs
+
+array-share-prefix-text : tie.Need-array-share-prefix-text
+array-share-prefix-text c = search needs
+
+slice-aggregate-write-all : tie.Need-slice-aggregate-write-all
+slice-aggregate-write-all c = sym (length-take-le _ _ (c .before .before .before .make-text .ensures .1))
+
+write-all-requires : tie.Need-write-all-requires
+write-all-requires c κs = search needs
+
+returns : tie.Need-returns
+returns c = search needs
+
+pub main-spec : {M : Type 1} → statement M
+main-spec =
+    tie.close
+    (tie.spec
+    slice-aggregate-read-full
+    read-full-requires
+    array-share-prefix-file
+    slice-aggregate-make-text
+    slice-aggregate-make-text-2
+    slice-aggregate-make-text-3
+    make-text-requires
+    array-share-prefix-text
+    slice-aggregate-write-all
+    write-all-requires
+    returns)

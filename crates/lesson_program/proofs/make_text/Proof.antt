@@ -1,0 +1,55 @@
+-- The library accepts, and the text stands in front.
+use native.Mathlib.Omega.{arith}
+use Rattle.lesson.specs.Room.{text-in-front, never-refused}
+use borrow.Author.Needs.{needs}
+use Rattle.lesson_program.proofs.make_text.Statement.{statement}
+use Rattle.lesson_program.proofs.make_text.Tie as tie
+
+slice-aggregate-write-text : tie.Need-slice-aggregate-write-text
+slice-aggregate-write-text c = search needs
+
+slice-aggregate-write-text-2 : tie.Need-slice-aggregate-write-text-2
+slice-aggregate-write-text-2 c = search needs
+
+write-text-requires : tie.Need-write-text-requires
+write-text-requires c κs = search needs
+
+enum-known-length : tie.Need-enum-known-length
+enum-known-length c = search needs
+
+same-length : tie.Need-same-length
+same-length c = search needs
+
+same-length-2 : tie.Need-same-length-2
+same-length-2 c = search needs
+
+returns : tie.Need-returns
+returns c = text-in-front _ _ _ _ _ _ _ (c .before .before .before .before .before .before .before .before .before .write-text .ensures) _ (c .before .length .given .1)
+
+enum-told : tie.Need-enum-told
+enum-told c = search needs
+
+same-length-3 : tie.Need-same-length-3
+same-length-3 c = search needs
+
+same-length-4 : tie.Need-same-length-4
+same-length-4 c = search needs
+
+returns-2 : tie.Need-returns-2
+returns-2 c = absurd (never-refused _ _ _ _ _ _ _ (c .before .before .before .before .before .before .before .before .write-text .ensures) (c .before .before .before .before .before .before .before .before .before .before .before .before .before .before .before .before .pre .0) (omega arith) (omega arith) (c .before .before .before .before .before .before .before .before .before .before .before .before .before .before .before .before .pre .1) _ (c .enum-told .given .1))
+
+pub make-text-spec : {M : Type 1} → statement M
+make-text-spec =
+    tie.close
+    (tie.spec
+    slice-aggregate-write-text
+    slice-aggregate-write-text-2
+    write-text-requires
+    enum-known-length
+    same-length
+    same-length-2
+    returns
+    enum-told
+    same-length-3
+    same-length-4
+    returns-2)

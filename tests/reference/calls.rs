@@ -1,0 +1,183 @@
+//! The calls of document 01, written from the page alone and sharing no code with the library.
+
+/// How a call ends: what it answers, or document 01's number and place.
+pub type Verdict<T> = Result<T, (u64, usize)>;
+
+fn ask(holds: bool, number: u64, place: usize) -> Verdict<()> {
+    if holds {
+        Ok(())
+    } else {
+        Err((number, place))
+    }
+}
+
+/// Every element passes, or the place of the first that does not.
+fn ask_all(list: &[u64], number: u64, passes: impl Fn(u64) -> bool) -> Verdict<()> {
+    match list.iter().position(|x| !passes(*x)) {
+        None => Ok(()),
+        Some(place) => Err((number, place)),
+    }
+}
+
+fn has_bits_at_or_above(word: u64, k: u64) -> bool {
+    (k..64).any(|i| word >> i & 1 == 1)
+}
+
+pub fn mask(n: u64, k: u64, value: u64, masks: &[u64], out: &mut [u64]) -> Verdict<u64> {
+    ask((2..=8).contains(&n), 1, 0)?;
+    ask((1..=16).contains(&k), 2, 0)?;
+    ask(!has_bits_at_or_above(value, k), 12, 0)?;
+    ask(masks.len() as u64 == n - 1, 13, 0)?;
+    ask_all(masks, 14, |m| !has_bits_at_or_above(m, k))?;
+    ask(out.len() as u64 >= n, 10, 0)?;
+    let mut last = value;
+    for (i, m) in masks.iter().enumerate() {
+        out[i] = *m;
+        last ^= m;
+    }
+    out[masks.len()] = last;
+    Ok(n)
+}
+
+/// a − b modulo q, for a and b below q.
+fn minus(a: u64, b: u64, q: u64) -> u64 {
+    (a + q - b) % q
+}
+
+/// Step 2: from the list A for j − 1 shares, the share b(j) and j − 1 random words to the list C for j shares.
+fn one_share_more(q: u64, a: &[u64], b: u64, r: &[u64]) -> Vec<u64> {
+    let mut list: Vec<u64> = a.iter().zip(r).map(|(a, r)| minus(*a, *r, q)).collect();
+    list.push(r.iter().sum::<u64>() % q);
+    for x in &mut list {
+        *x = minus(*x, 2 * *x * b % q, q);
+    }
+    list[0] = (list[0] + b) % q;
+    list
+}
+
+/// Step 3: each pair (i, m) with i < m takes one word, which share i gains and share m loses.
+fn refresh(q: u64, list: &mut [u64], words: &[u64]) {
+    let mut used = 0;
+    for i in 0..list.len() {
+        for m in i + 1..list.len() {
+            list[i] = (list[i] + words[used]) % q;
+            list[m] = minus(list[m], words[used], q);
+            used += 1;
+        }
+    }
+}
+
+/// Steps 1, 2 and 3: the n numbers of a shared bit, with its n(n − 1) words at the front of the list.
+fn numbers_of_bit(q: u64, bits: &[u64], words: &[u64]) -> Vec<u64> {
+    let mut list = vec![bits[0]];
+    let mut rest = words;
+    for b in &bits[1..] {
+        let (next, later) = rest.split_at(list.len());
+        list = one_share_more(q, &list, *b, next);
+        rest = later;
+    }
+    refresh(q, &mut list, rest);
+    list
+}
+
+/// One shared bit to n numbers. Like every modulus of the page, q is a 16-bit number.
+pub fn convert_bit(n: u64, q: u64, bits: &[u64], words: &[u64], out: &mut [u64]) -> Verdict<u64> {
+    ask((2..=8).contains(&n), 1, 0)?;
+    ask(q >= 3, 3, 0)?;
+    ask(bits.len() as u64 == n, 4, 0)?;
+    ask_all(bits, 6, |b| b <= 1)?;
+    let count = n * (n - 1);
+    ask(words.len() as u64 >= count, 8, 0)?;
+    ask_all(&words[..count as usize], 9, |r| r < q)?;
+    ask(out.len() as u64 >= n, 10, 0)?;
+    out[..n as usize].copy_from_slice(&numbers_of_bit(q, bits, words));
+    Ok(count)
+}
+
+pub fn open_string(n: u64, k: u64, shares: &[u64]) -> Verdict<u64> {
+    ask((2..=8).contains(&n), 1, 0)?;
+    ask((1..=16).contains(&k), 2, 0)?;
+    ask(shares.len() as u64 == n, 4, 0)?;
+    ask_all(shares, 6, |s| !has_bits_at_or_above(s, k))?;
+    Ok(shares.iter().fold(0, |a, s| a ^ s))
+}
+
+pub fn open_residue(n: u64, q: u64, shares: &[u64]) -> Verdict<u64> {
+    ask((2..=8).contains(&n), 1, 0)?;
+    ask(q >= 3, 3, 0)?;
+    ask(shares.len() as u64 == n, 15, 0)?;
+    ask_all(shares, 16, |s| s < q)?;
+    Ok(shares.iter().sum::<u64>() % q)
+}
+
+pub fn centre(q: u64, r: u64) -> Verdict<i64> {
+    ask(q >= 3, 3, 0)?;
+    ask(r < q, 17, 0)?;
+    Ok(if 2 * r < q { r as i64 } else { r as i64 - q as i64 })
+}
+
+fn weight(word: u64) -> i64 {
+    (0..16).map(|i| (word >> i & 1) as i64).sum()
+}
+
+pub fn weight_difference(k: u64, x: u64, y: u64) -> Verdict<i64> {
+    ask((1..=16).contains(&k), 2, 0)?;
+    ask(!has_bits_at_or_above(x, k), 12, 0)?;
+    ask(!has_bits_at_or_above(y, k), 12, 1)?;
+    Ok(weight(x) - weight(y))
+}
+
+pub fn parameters(n: u64, k: u64, q: u64) -> Verdict<()> {
+    ask((2..=8).contains(&n), 1, 0)?;
+    ask((1..=16).contains(&k), 2, 0)?;
+    ask(q >= 2 * k + 1, 3, 0)
+}
+
+/// The sampler. The strings are the shares of x and the shares of y.
+pub fn sample(n: u64, k: u64, q: u64, strings: [&[u64]; 2], words: &[u64], out: &mut [u64], work: &mut [u64]) -> Verdict<u64> {
+    let [x, y] = strings;
+    parameters(n, k, q)?;
+    ask(x.len() as u64 == n, 4, 0)?;
+    ask(y.len() as u64 == n, 5, 0)?;
+    ask_all(x, 6, |s| !has_bits_at_or_above(s, k))?;
+    ask_all(y, 7, |s| !has_bits_at_or_above(s, k))?;
+    let count = 2 * k * n * (n - 1);
+    ask(words.len() as u64 >= count, 8, 0)?;
+    ask_all(&words[..count as usize], 9, |r| r < q)?;
+    ask(out.len() as u64 >= n, 10, 0)?;
+    ask(work.len() as u64 >= 2 * k * n, 11, 0)?;
+    let (n, k) = (n as usize, k as usize);
+    for row in 0..2 * k {
+        let (shares, bit) = if row < k { (x, row) } else { (y, row - k) };
+        let bits: Vec<u64> = shares.iter().map(|s| s >> bit & 1).collect();
+        let first = row * n * (n - 1);
+        let numbers = numbers_of_bit(q, &bits, &words[first..first + n * (n - 1)]);
+        work[row * n..(row + 1) * n].copy_from_slice(&numbers);
+    }
+    for (i, share) in out[..n].iter_mut().enumerate() {
+        let x_sum = (0..k).map(|row| work[row * n + i]).sum::<u64>() % q;
+        let y_sum = (k..2 * k).map(|row| work[row * n + i]).sum::<u64>() % q;
+        *share = minus(x_sum, y_sum, q);
+    }
+    work[..2 * k * n].fill(0);
+    Ok(count)
+}
+
+/// The shares add up to the weight of x less the weight of y, modulo q.
+pub fn adds_up(q: u64, strings: [&[u64]; 2], shares: &[u64]) -> bool {
+    let [x, y] = strings.map(|s| weight(s.iter().fold(0, |a, w| a ^ w)));
+    (shares.iter().sum::<u64>() % q) as i64 == (x - y).rem_euclid(q as i64)
+}
+
+pub fn parameter_set(number: u64) -> Verdict<(u64, u64)> {
+    match number {
+        1 => Ok((2, 3329)),
+        2 => Ok((3, 3329)),
+        3 => Ok((8, 12289)),
+        4 => Ok((16, 12289)),
+        5 => Ok((5, 8192)),
+        6 => Ok((4, 8192)),
+        7 => Ok((3, 8192)),
+        _ => Err((22, 0)),
+    }
+}

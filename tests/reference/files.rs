@@ -1,0 +1,748 @@
+//! Lesson files made from a seed: good ones, and ones damaged in each way that document 01 refuses.
+
+use crate::calls;
+use crate::lesson::{MOST_BYTES, MOST_WORDS};
+
+/// Numbers drawn from a seed (splitmix64).
+pub struct Dice {
+    state: u64,
+}
+
+impl Dice {
+    /// The numbers for one file, which follow from the seed and the file's number alone.
+    pub fn new(seed: u64, number: u64) -> Dice {
+        let seed = Dice { state: seed }.next();
+        Dice { state: Dice { state: seed ^ number }.next() }
+    }
+
+    fn next(&mut self) -> u64 {
+        self.state = self.state.wrapping_add(0x9E37_79B9_7F4A_7C15);
+        let z = (self.state ^ self.state >> 30).wrapping_mul(0xBF58_476D_1CE4_E5B9);
+        let z = (z ^ z >> 27).wrapping_mul(0x94D0_49BB_1331_11EB);
+        z ^ z >> 31
+    }
+
+    /// From 0 to the bound less one.
+    pub fn below(&mut self, bound: u64) -> u64 {
+        self.next() % bound
+    }
+
+    /// Both ends are drawn too.
+    pub fn between(&mut self, low: u64, high: u64) -> u64 {
+        low + self.below(high - low + 1)
+    }
+
+    /// Once in so many times.
+    pub fn one_in(&mut self, times: u64) -> bool {
+        self.below(times) == 0
+    }
+
+    fn pick<T: Copy>(&mut self, list: &[T]) -> T {
+        list[self.below(list.len() as u64) as usize]
+    }
+
+    fn bytes(&mut self, count: usize) -> Vec<u8> {
+        (0..count).map(|_| self.next() as u8).collect()
+    }
+}
+
+/// W, the random words that a sample takes.
+fn words_needed(n: u64, k: u64) -> u64 {
+    2 * k * n * (n - 1)
+}
+
+/// Two bytes a word, the low byte first.
+fn bytes_of(words: &[u64]) -> Vec<u8> {
+    words.iter().flat_map(|word| (*word as u16).to_le_bytes()).collect()
+}
+
+/// The fields of a sample's records. RW's count stands by itself, as it may be wrong.
+struct Sample {
+    n: u64,
+    k: u64,
+    q: u64,
+    x: Vec<u64>,
+    y: Vec<u64>,
+    x_first: bool,
+    count: u64,
+    words: Vec<u64>,
+}
+
+impl Sample {
+    /// The four records in the order of the file.
+    fn records(&self) -> [Vec<u8>; 4] {
+        let parameters = [b"PM", &[self.n as u8, self.k as u8][..], &bytes_of(&[self.q])].concat();
+        let x = [&b"XB"[..], &bytes_of(&self.x)].concat();
+        let y = [&b"YB"[..], &bytes_of(&self.y)].concat();
+        let random = [&b"RW"[..], &bytes_of(&[self.count]), &bytes_of(&self.words)].concat();
+        if self.x_first {
+            [parameters, x, y, random]
+        } else {
+            [parameters, y, x, random]
+        }
+    }
+
+    fn bytes(&self) -> Vec<u8> {
+        self.records().concat()
+    }
+
+    /// The words and their right count.
+    fn set_words(&mut self, words: Vec<u64>) {
+        self.count = words.len() as u64;
+        self.words = words;
+    }
+
+    /// The list that comes first in the file.
+    fn first_list(&mut self) -> &mut Vec<u64> {
+        if self.x_first {
+            &mut self.x
+        } else {
+            &mut self.y
+        }
+    }
+}
+
+/// From 2k + 1 to 65,535, often one of the ends.
+fn modulus(dice: &mut Dice, k: u64) -> u64 {
+    match dice.below(8) {
+        0 => 2 * k + 1,
+        1 => 65_535,
+        2 => 2 * k + 2,
+        3 => dice.between(2 * k + 1, 2 * k + 30),
+        4 => dice.pick(&[3_329, 12_289, 8_192, 32_768, 65_534]),
+        _ => dice.between(2 * k + 1, 65_535),
+    }
+}
+
+/// n Boolean shares.
+fn shares(dice: &mut Dice, n: u64, k: u64) -> Vec<u64> {
+    let ones = (1 << k) - 1;
+    let form = dice.below(8);
+    let share = |_| match form {
+        0 => 0,
+        1 => ones,
+        2 => dice.pick(&[0, ones]),
+        _ => dice.between(0, ones),
+    };
+    (0..n).map(share).collect()
+}
+
+/// Words below q.
+fn random_words(dice: &mut Dice, q: u64, count: u64) -> Vec<u64> {
+    let form = dice.below(10);
+    let word = |_| match form {
+        0 => 0,
+        1 => q - 1,
+        2 => dice.pick(&[0, q - 1]),
+        _ => dice.below(q),
+    };
+    (0..count).map(word).collect()
+}
+
+/// A good sample with exactly W words.
+fn good(dice: &mut Dice, n: u64, k: u64) -> Sample {
+    let q = modulus(dice, k);
+    let (x, y, x_first) = (shares(dice, n, k), shares(dice, n, k), dice.one_in(2));
+    let words = random_words(dice, q, words_needed(n, k));
+    Sample { n, k, q, x, y, x_first, count: words.len() as u64, words }
+}
+
+/// Words past W are not judged and may be q or more.
+fn lengthen(dice: &mut Dice, sample: &mut Sample, count: u64) {
+    let q = sample.q;
+    while sample.count < count {
+        let word = dice.pick(&[0, q - 1, q, 65_535]);
+        sample.words.push(if dice.one_in(2) { word } else { dice.below(65_536) });
+        sample.count += 1;
+    }
+}
+
+/// A good sample, mostly a short one.
+fn any_good(dice: &mut Dice) -> Sample {
+    let wide = dice.one_in(8);
+    let (n, k) = if wide { (dice.between(2, 8), dice.between(1, 16)) } else { (dice.between(2, 4), dice.between(1, 3)) };
+    let mut sample = good(dice, n, k);
+    if dice.one_in(6) {
+        let count = dice.between(sample.count, MOST_WORDS.min(sample.count + 20));
+        lengthen(dice, &mut sample, count);
+    }
+    sample
+}
+
+/// A good sample whose shares have bits that must be zero.
+fn narrow_good(dice: &mut Dice) -> Sample {
+    let (n, k) = (dice.between(2, 5), dice.pick(&[1, 2, 3, 8, 15]));
+    good(dice, n, k)
+}
+
+/// Good samples that stand before the damaged one, where there are any.
+fn earlier(dice: &mut Dice, later: bool) -> Vec<u8> {
+    let count = if later { dice.between(1, 3) } else { 0 };
+    (0..count).flat_map(|_| any_good(dice).bytes()).collect()
+}
+
+/// What stands behind the damaged sample and is never read.
+fn behind(dice: &mut Dice) -> Vec<u8> {
+    match dice.below(3) {
+        0 => Vec::new(),
+        1 => any_good(dice).bytes(),
+        _ => {
+            let count = dice.between(1, 40) as usize;
+            dice.bytes(count)
+        }
+    }
+}
+
+/// A damaged sample, with good ones before it where it is a later one.
+fn placed(dice: &mut Dice, later: bool, damaged: Vec<u8>) -> Vec<u8> {
+    [earlier(dice, later), damaged, behind(dice)].concat()
+}
+
+/// Samples of the given number of bytes in all: even, and at least 30.
+fn good_bytes(dice: &mut Dice, count: usize) -> Vec<u8> {
+    let mut file = Vec::new();
+    while file.len() + 3_606 < count {
+        let sample = any_good(dice).bytes();
+        let fits = file.len() + sample.len() + 30 <= count;
+        file.extend(if fits { sample } else { good(dice, 2, 1).bytes() });
+    }
+    let mut last = good(dice, 2, 1);
+    let words = (count - file.len() - 22) as u64 / 2;
+    lengthen(dice, &mut last, words);
+    file.extend(last.bytes());
+    assert_eq!(file.len(), count, "samples of so many bytes in all");
+    file
+}
+
+/// Many samples of 30 bytes each.
+fn shortest_samples(dice: &mut Dice, count: usize) -> Vec<u8> {
+    (0..count).flat_map(|_| good(dice, 2, 1).bytes()).collect()
+}
+
+// Good files.
+
+/// Every n with every k.
+fn every_pair(dice: &mut Dice, turn: usize) -> Vec<u8> {
+    good(dice, 2 + turn as u64 % 7, 1 + turn as u64 / 7 % 16).bytes()
+}
+
+/// RW with more words than the sample takes, up to 1,792.
+fn more_words(dice: &mut Dice, turn: usize) -> Vec<u8> {
+    let (n, k) = if dice.one_in(3) { (dice.between(2, 8), dice.between(1, 16)) } else { (dice.between(2, 3), dice.between(1, 4)) };
+    let mut sample = good(dice, n, k);
+    let count = match turn % 4 {
+        0 => MOST_WORDS,
+        1 => MOST_WORDS.min(sample.count + 1),
+        _ => dice.between(sample.count, MOST_WORDS),
+    };
+    lengthen(dice, &mut sample, count);
+    [sample.bytes(), earlier(dice, turn % 3 == 0)].concat()
+}
+
+/// No sample, one, or up to twelve.
+fn several_samples(dice: &mut Dice, turn: usize) -> Vec<u8> {
+    (0..turn % 13).flat_map(|_| any_good(dice).bytes()).collect()
+}
+
+/// 2,000 samples fill 60,000 bytes.
+fn many_samples(dice: &mut Dice, turn: usize) -> Vec<u8> {
+    let count = [2_000, dice.between(50, 1_999) as usize][turn % 2];
+    shortest_samples(dice, count)
+}
+
+/// Exactly 60,000 bytes.
+fn full_file(dice: &mut Dice, _: usize) -> Vec<u8> {
+    good_bytes(dice, MOST_BYTES)
+}
+
+// 1, 2 and 3.
+
+/// Parameters past each end, one at a time and several at once.
+fn make_unfit(dice: &mut Dice, sample: &mut Sample, form: usize) {
+    let (n, k) = (dice.pick(&[2, 8, sample.n]), dice.pick(&[1, 16, sample.k]));
+    let low = dice.below(2 * k + 1);
+    let (n_past, k_past) = (dice.pick(&[0, 1, 9, 10, 255]), dice.pick(&[0, 17, 18, 255]));
+    let q_past = dice.below(2 * k_past + 1);
+    (sample.n, sample.k, sample.q) = match form % 18 {
+        0 => (1, k, sample.q),
+        1 => (9, k, sample.q),
+        2 => (0, k, sample.q),
+        3 => (dice.between(9, 255), k, sample.q),
+        4 => (n, 0, sample.q),
+        5 => (n, 17, sample.q),
+        6 => (n, dice.between(17, 255), 65_535),
+        7 => (n, k, 2 * k),
+        8 => (n, k, 2 * k - 1),
+        9 => (n, k, 0),
+        10 => (n, k, low),
+        11 => (n_past, k_past, 65_535),
+        12 => (n_past, k, low),
+        13 => (n, k_past, q_past),
+        14 => (n_past, k_past, q_past),
+        15 => (1, 0, 0),
+        16 => (9, 17, 34),
+        _ => (dice.below(256), dice.below(256), dice.below(65_536)),
+    };
+}
+
+/// PM is put to questions 1 to 3 at once, whatever stands behind it.
+fn unfit_parameters(dice: &mut Dice, turn: usize) -> Vec<u8> {
+    let mut sample = any_good(dice);
+    make_unfit(dice, &mut sample, turn / 2);
+    let damaged = if dice.one_in(2) { sample.bytes() } else { sample.records()[0].clone() };
+    placed(dice, turn % 2 == 1, damaged)
+}
+
+/// A cut PM answers 19, whatever its values.
+fn unfit_parameters_cut(dice: &mut Dice, turn: usize) -> Vec<u8> {
+    let mut sample = any_good(dice);
+    make_unfit(dice, &mut sample, turn);
+    let kept = dice.between(1, 5) as usize;
+    [earlier(dice, turn % 2 == 1), sample.records()[0][..kept].to_vec()].concat()
+}
+
+// 6, 7, 8 and 9.
+
+/// The share with one of the bits k to 15 set, or all of them.
+fn too_wide(dice: &mut Dice, share: u64, k: u64) -> u64 {
+    let inside = dice.between(k, 15);
+    share | dice.pick(&[1 << k, 1 << 15, 1 << inside, 65_536 - (1 << k)])
+}
+
+/// One share of a list gets too wide.
+fn widen(dice: &mut Dice, list: &mut [u64], k: u64) {
+    let place = dice.below(list.len() as u64) as usize;
+    list[place] = too_wide(dice, list[place], k);
+}
+
+/// Each share of each number of shares, in x, in y and in both, in both orders of the lists.
+fn wide_shares(dice: &mut Dice, turn: usize) -> Vec<u8> {
+    let every_share: Vec<(u64, usize)> = (2..=8).flat_map(|n| (0..n as usize).map(move |place| (n, place))).collect();
+    let (n, place) = every_share[turn % 35];
+    let k = dice.pick(&[1, 2, 3, 15]);
+    let mut sample = good(dice, n, k);
+    let form = turn / 35 % 6;
+    if form % 3 != 1 {
+        sample.x[place] = too_wide(dice, sample.x[place], k);
+    }
+    if form % 3 != 0 {
+        sample.y[place] = too_wide(dice, sample.y[place], k);
+    }
+    sample.x_first = form < 3;
+    let later = dice.one_in(2);
+    placed(dice, later, sample.bytes())
+}
+
+/// Fewer words than W: one too few, none, or any number between.
+fn shorten(dice: &mut Dice, sample: &mut Sample, form: usize) {
+    let needed = words_needed(sample.n, sample.k);
+    let count = [needed - 1, 0, dice.below(needed)][form % 3];
+    sample.set_words(sample.words[..count as usize].to_vec());
+}
+
+/// RW counts fewer words than W; at times more of them stand behind the counted ones.
+fn few_words(dice: &mut Dice, turn: usize) -> Vec<u8> {
+    let mut sample = any_good(dice);
+    let words = sample.words.clone();
+    shorten(dice, &mut sample, turn / 2);
+    if dice.one_in(4) {
+        sample.words = words;
+    }
+    placed(dice, turn % 2 == 1, sample.bytes())
+}
+
+/// The words that an earlier sample left behind would do for the next one, but are not lent; nor are they judged.
+fn old_words(dice: &mut Dice, turn: usize) -> Vec<u8> {
+    let (mut first, mut second) = (any_good(dice), any_good(dice));
+    let least = first.q.min(second.q);
+    let count = dice.pick(&[MOST_WORDS, first.count.max(second.count)]);
+    first.set_words(random_words(dice, least, count));
+    if turn % 4 == 3 {
+        lengthen(dice, &mut first, MOST_WORDS);
+    } else {
+        shorten(dice, &mut second, turn);
+    }
+    let later = dice.one_in(3);
+    [earlier(dice, later), first.bytes(), second.bytes(), behind(dice)].concat()
+}
+
+/// A word that is not below q.
+fn make_high(dice: &mut Dice, sample: &mut Sample, place: usize) {
+    let above = (sample.q + 1).min(65_535);
+    sample.words[place] = dice.pick(&[sample.q, above, 65_535]);
+}
+
+/// The first, the last and a middle word of the W.
+fn high_words(dice: &mut Dice, turn: usize) -> Vec<u8> {
+    let mut sample = any_good(dice);
+    let needed = words_needed(sample.n, sample.k);
+    let middle = dice.between(1, needed - 2) as usize;
+    make_high(dice, &mut sample, [0, needed as usize - 1, middle][turn % 3]);
+    if dice.one_in(4) {
+        make_high(dice, &mut sample, middle);
+    }
+    placed(dice, turn / 3 % 2 == 1, sample.bytes())
+}
+
+/// Two or more of 6, 7, 8 and 9 in one sample.
+fn several_faults(dice: &mut Dice, turn: usize) -> Vec<u8> {
+    let mut sample = narrow_good(dice);
+    let faults: u32 = [3, 5, 6, 7, 9, 10, 11, 12, 13, 14, 15][turn % 11];
+    if faults & 1 != 0 {
+        widen(dice, &mut sample.x, sample.k);
+    }
+    if faults & 2 != 0 {
+        widen(dice, &mut sample.y, sample.k);
+    }
+    if faults & 4 != 0 {
+        let count = dice.between(1, words_needed(sample.n, sample.k) - 1);
+        sample.set_words(sample.words[..count as usize].to_vec());
+    }
+    if faults & 8 != 0 {
+        let place = dice.below(sample.count) as usize;
+        make_high(dice, &mut sample, place);
+    }
+    placed(dice, turn / 11 % 2 == 1, sample.bytes())
+}
+
+/// Wide shares are not answered before RW is complete: 18, 19 and 20 come first, at any record behind the list.
+fn wide_shares_and_bad_record(dice: &mut Dice, turn: usize) -> Vec<u8> {
+    let mut sample = narrow_good(dice);
+    let k = sample.k;
+    widen(dice, sample.first_list(), k);
+    let later = turn / 3 % 2 == 1;
+    match turn % 3 {
+        0 => {
+            let at = dice.between(2, 3) as usize;
+            let mut records = sample.records();
+            let mark = wrong_mark(dice, &records[at], turn / 6);
+            records[at][..2].copy_from_slice(&mark);
+            placed(dice, later, records.concat())
+        }
+        1 => {
+            let (lists, bytes) = (sample.records()[..2].concat().len(), sample.bytes());
+            let kept = dice.between(lists as u64, bytes.len() as u64 - 1) as usize;
+            [earlier(dice, later), bytes[..kept].to_vec()].concat()
+        }
+        _ => {
+            sample.count = dice.between(MOST_WORDS + 1, 65_535);
+            placed(dice, later, sample.bytes())
+        }
+    }
+}
+
+// 18.
+
+/// The other marks, and marks that are nearly right.
+fn wrong_mark(dice: &mut Dice, record: &[u8], form: usize) -> [u8; 2] {
+    let (a, b) = (record[0], record[1]);
+    match form % 14 {
+        0 => *b"PM",
+        1 => *b"XB",
+        2 => *b"YB",
+        3 => *b"RW",
+        4 => [a.to_ascii_lowercase(), b.to_ascii_lowercase()],
+        5 => [a.to_ascii_lowercase(), b],
+        6 => [a, b.to_ascii_lowercase()],
+        7 => [b, a],
+        8 => [a, dice.pick(b"MBWPXYR")],
+        9 => [dice.pick(b"PXYRMBW"), b],
+        10 => [0, 0],
+        11 => [a, 0],
+        12 => [a | 128, b],
+        _ => [dice.below(256) as u8, dice.below(256) as u8],
+    }
+}
+
+/// Each of the four records with each wrong mark.
+fn wrong_marks(dice: &mut Dice, turn: usize) -> Vec<u8> {
+    let mut records = any_good(dice).records();
+    let record = &mut records[turn % 4];
+    let mark = wrong_mark(dice, record, turn / 8);
+    record[..2].copy_from_slice(&mark);
+    placed(dice, turn / 4 % 2 == 1, records.concat())
+}
+
+/// A wrong mark with fewer bytes behind it than the record needs: 18 goes before 19.
+fn wrong_marks_cut(dice: &mut Dice, turn: usize) -> Vec<u8> {
+    let records = any_good(dice).records();
+    let record = &records[turn % 4];
+    let mark = wrong_mark(dice, record, turn / 8);
+    let kept = dice.pick(&[2, 3, record.len() - 1]);
+    [&earlier(dice, turn / 4 % 2 == 1)[..], &records[..turn % 4].concat(), &mark, &record[2..kept]].concat()
+}
+
+// 19.
+
+/// Short samples to be cut after every byte: n, k, the samples before it, and whether XB comes first.
+const TO_CUT: [(u64, u64, usize, bool); 7] =
+    [(2, 1, 0, true), (2, 1, 0, false), (2, 1, 1, true), (2, 1, 2, false), (3, 1, 0, true), (3, 1, 1, false), (2, 2, 0, true)];
+
+/// Every other turn takes the next of all the cuts of the short samples.
+fn cut_after_every_byte(dice: &mut Dice, turn: usize) -> Vec<u8> {
+    if turn % 2 == 1 {
+        return cut_anywhere(dice, turn);
+    }
+    let length = |n: u64, k: u64| (14 + 4 * n + 2 * words_needed(n, k)) as usize;
+    let every_cut: Vec<_> = TO_CUT.iter().flat_map(|form| (0..length(form.0, form.1)).map(move |kept| (*form, kept))).collect();
+    let ((n, k, before, x_first), kept) = every_cut[turn / 2 % every_cut.len()];
+    let mut sample = good(dice, n, k);
+    sample.x_first = x_first;
+    let mut file: Vec<u8> = (0..before).flat_map(|_| any_good(dice).bytes()).collect();
+    file.extend(&sample.bytes()[..kept]);
+    file
+}
+
+/// Samples of any n, cut in their first records or anywhere.
+fn cut_anywhere(dice: &mut Dice, turn: usize) -> Vec<u8> {
+    let sample = any_good(dice).bytes();
+    let most = dice.pick(&[sample.len() as u64 - 1, 20]);
+    let kept = dice.between(1, most) as usize;
+    [earlier(dice, turn / 2 % 2 == 1), sample[..kept].to_vec()].concat()
+}
+
+/// A cut with damage before it, which may be answered before the cut is reached.
+fn damaged_and_cut(dice: &mut Dice, turn: usize) -> Vec<u8> {
+    let mut sample = narrow_good(dice);
+    match turn % 6 {
+        0 => widen(dice, &mut sample.x, sample.k),
+        1 => widen(dice, &mut sample.y, sample.k),
+        2 => shorten(dice, &mut sample, turn / 6),
+        3 => make_high(dice, &mut sample, 0),
+        4 => make_unfit(dice, &mut sample, turn / 6),
+        _ => sample.count = dice.between(MOST_WORDS + 1, 65_535),
+    }
+    let bytes = sample.bytes();
+    let lists = sample.records()[..3].concat().len() as u64;
+    let kept = if dice.one_in(2) { dice.between(1, bytes.len() as u64 - 1) } else { dice.between(1, lists + 4) };
+    [earlier(dice, turn / 6 % 2 == 1), bytes[..bytes.len().min(kept as usize)].to_vec()].concat()
+}
+
+// 20.
+
+/// Counts above 1,792, with none or some or all of the words behind; and a count that is cut, or just not too high.
+fn high_counts(dice: &mut Dice, turn: usize) -> Vec<u8> {
+    let mut sample = any_good(dice);
+    sample.count = match turn % 6 {
+        0 => 1_793,
+        1 => 65_535,
+        2 => dice.pick(&[1_794, 2_047, 2_048, 32_767, 32_768, 65_280]),
+        3 => dice.between(1_793, 65_535),
+        4 => dice.pick(&[1_791, 1_792]),
+        _ => dice.between(1_793, 4_000),
+    };
+    let later = turn / 6 % 2 == 1;
+    let before_words = sample.bytes().len() - 2 * sample.words.len();
+    match turn / 12 % 4 {
+        0 => [earlier(dice, later), sample.bytes()[..before_words].to_vec()].concat(),
+        1 => [earlier(dice, later), sample.bytes()[..before_words - 1].to_vec()].concat(),
+        2 => {
+            sample.words = random_words(dice, sample.q, sample.count.min(25_000));
+            [earlier(dice, later), sample.bytes()].concat()
+        }
+        _ => placed(dice, later, sample.bytes()),
+    }
+}
+
+// 21, and files of about 60,000 bytes.
+
+/// 60,000 bytes that end in a refusal.
+fn full_file_refused(dice: &mut Dice, turn: usize) -> Vec<u8> {
+    let mut sample = narrow_good(dice);
+    match turn % 6 {
+        0 => make_high(dice, &mut sample, 0),
+        1 => widen(dice, &mut sample.x, sample.k),
+        2 => shorten(dice, &mut sample, 1),
+        3 => sample.count = MOST_WORDS + 1,
+        4 => make_unfit(dice, &mut sample, turn / 6),
+        _ => sample.count += 1,
+    }
+    let last = sample.bytes();
+    [good_bytes(dice, MOST_BYTES - last.len()), last].concat()
+}
+
+/// A byte or a few fewer than 60,000.
+fn nearly_full_file(dice: &mut Dice, turn: usize) -> Vec<u8> {
+    let mut file = if dice.one_in(2) { good_bytes(dice, MOST_BYTES) } else { shortest_samples(dice, 2_000) };
+    file.truncate([59_999, 59_998, 59_970, 59_971][turn % 4]);
+    file
+}
+
+/// More than 60,000 bytes: good samples, nonsense, or a refusal that is not looked for.
+fn too_long(dice: &mut Dice, turn: usize) -> Vec<u8> {
+    let count = [60_001, 60_002, 70_000, 60_030, 1_000_000, 65_536, 65_566, 125_536][turn % 8];
+    match turn / 8 % 4 {
+        0 => [good_bytes(dice, count / 2 * 2), vec![b'P'; count % 2]].concat(),
+        1 => dice.bytes(count),
+        2 => shortest_samples(dice, count / 30 + 1)[..count].to_vec(),
+        _ => [unfit_parameters(dice, 0), dice.bytes(count)].concat()[..count].to_vec(),
+    }
+}
+
+// Files that are damaged without regard to what it means.
+
+/// Nonsense, nonsense behind a mark, and nonsense of bytes that lesson files have.
+fn random_bytes(dice: &mut Dice, turn: usize) -> Vec<u8> {
+    let count = dice.between(1, 120) as usize;
+    match turn % 3 {
+        0 => dice.bytes(count),
+        1 => [b"PM", &dice.bytes(count)[..]].concat(),
+        _ => (0..count).map(|_| dice.pick(b"PMXBYBRW\0\x01\x02\x03\x04\x11\n ")).collect(),
+    }
+}
+
+/// A few good samples, record by record.
+fn some_records(dice: &mut Dice) -> Vec<Vec<u8>> {
+    let count = dice.between(1, 3);
+    (0..count).flat_map(|_| any_good(dice).records()).collect()
+}
+
+/// Whole records in any order.
+fn random_records(dice: &mut Dice, _: usize) -> Vec<u8> {
+    let records = any_good(dice).records();
+    let count = dice.between(1, 9) as usize;
+    let kept = dice.below(5) as usize;
+    let mut file: Vec<Vec<u8>> = records.iter().take(kept).cloned().collect();
+    file.extend((0..count).map(|_| records[dice.below(4) as usize].clone()));
+    file.concat()
+}
+
+/// One byte of a good file is another, at times in the front of a record.
+fn changed_byte(dice: &mut Dice, turn: usize) -> Vec<u8> {
+    let mut records = some_records(dice);
+    let record = dice.below(records.len() as u64) as usize;
+    let whole = records[record].len() as u64;
+    let place = dice.below(if turn % 8 < 4 { whole } else { whole.min(8) }) as usize;
+    let byte = &mut records[record][place];
+    *byte = match turn % 4 {
+        0 => *byte ^ 1 << dice.below(8),
+        1 => byte.wrapping_add(1),
+        2 => byte.wrapping_sub(1),
+        _ => dice.below(256) as u8,
+    };
+    records.concat()
+}
+
+fn byte_left_out(dice: &mut Dice, _: usize) -> Vec<u8> {
+    let mut file = some_records(dice).concat();
+    file.remove(dice.below(file.len() as u64) as usize);
+    file
+}
+
+fn byte_put_in(dice: &mut Dice, _: usize) -> Vec<u8> {
+    let mut file = some_records(dice).concat();
+    let byte = dice.pick(&[0, 1, b'P', b'X', b'B', b'\n', 255]);
+    file.insert(dice.between(0, file.len() as u64) as usize, byte);
+    file
+}
+
+fn records_swapped(dice: &mut Dice, _: usize) -> Vec<u8> {
+    let mut records = some_records(dice);
+    let count = records.len() as u64;
+    records.swap(dice.below(count) as usize, dice.below(count) as usize);
+    records.concat()
+}
+
+fn record_twice(dice: &mut Dice, _: usize) -> Vec<u8> {
+    let mut records = some_records(dice);
+    let place = dice.below(records.len() as u64) as usize;
+    records.insert(place, records[place].clone());
+    records.concat()
+}
+
+fn record_left_out(dice: &mut Dice, _: usize) -> Vec<u8> {
+    let mut records = some_records(dice);
+    records.remove(dice.below(records.len() as u64) as usize);
+    records.concat()
+}
+
+/// Bytes behind a complete sample.
+fn bytes_behind(dice: &mut Dice, turn: usize) -> Vec<u8> {
+    let behind: [&[u8]; 12] = [b"P", b"X", b"\0", b"\n", b"PM", b"RW", b"XB", b"\0\0", b"\n\n", b"PM\x02", b"PM\x02\x01\x11", b"PM\x02\x01\x02\0"];
+    [earlier(dice, true), behind[turn % behind.len()].to_vec()].concat()
+}
+
+/// Makes a file of one kind from the numbers drawn and from how many of the kind came before it.
+type Maker = fn(&mut Dice, usize) -> Vec<u8>;
+
+/// The kinds of files, and how many of each in a round.
+const KINDS: [(&str, usize, Maker); 30] = [
+    ("every pair of n and k", 4, every_pair),
+    ("more words than W", 4, more_words),
+    ("several samples", 3, several_samples),
+    ("many samples", 1, many_samples),
+    ("60,000 bytes", 1, full_file),
+    ("unfit parameters", 6, unfit_parameters),
+    ("unfit parameters, cut", 2, unfit_parameters_cut),
+    ("wide shares", 8, wide_shares),
+    ("too few words", 5, few_words),
+    ("old words", 4, old_words),
+    ("high words", 6, high_words),
+    ("several faults", 5, several_faults),
+    ("wide shares and a bad record", 4, wide_shares_and_bad_record),
+    ("wrong marks", 8, wrong_marks),
+    ("wrong marks, cut", 5, wrong_marks_cut),
+    ("cut after every byte", 12, cut_after_every_byte),
+    ("damaged and cut", 4, damaged_and_cut),
+    ("high counts", 5, high_counts),
+    ("60,000 bytes, refused", 1, full_file_refused),
+    ("nearly 60,000 bytes", 1, nearly_full_file),
+    ("too long", 1, too_long),
+    ("random bytes", 3, random_bytes),
+    ("random records", 3, random_records),
+    ("a byte changed", 6, changed_byte),
+    ("a byte left out", 2, byte_left_out),
+    ("a byte put in", 2, byte_put_in),
+    ("two records swapped", 2, records_swapped),
+    ("a record twice", 2, record_twice),
+    ("a record left out", 1, record_left_out),
+    ("bytes behind the last sample", 3, bytes_behind),
+];
+
+/// The file of a number, and its kind.
+pub fn made(seed: u64, number: usize) -> (&'static str, Vec<u8>) {
+    let round: usize = KINDS.iter().map(|kind| kind.1).sum();
+    let mut place = number % round;
+    let mut kinds = KINDS.iter();
+    loop {
+        let (name, times, maker) = kinds.next().expect("a place inside the round");
+        if place < *times {
+            return (name, maker(&mut Dice::new(seed, number as u64), number / round * times + place));
+        }
+        place -= times;
+    }
+}
+
+/// Two strings of k bits whose weight difference has the sign asked for.
+fn strings_of_sign(dice: &mut Dice, k: u64, sign: i64) -> (u64, u64) {
+    loop {
+        let (x, y) = (dice.below(1 << k), dice.below(1 << k));
+        if calls::weight_difference(k, x, y).expect("strings of k bits").signum() == sign {
+            return (x, y);
+        }
+    }
+}
+
+/// n shares of a string: masks drawn evenly, and the string XOR all masks.
+fn masked(dice: &mut Dice, n: u64, k: u64, string: u64) -> Vec<u64> {
+    let masks: Vec<u64> = (1..n).map(|_| dice.below(1 << k)).collect();
+    let mut out = vec![0; n as usize];
+    calls::mask(n, k, string, &masks, &mut out).expect("a string of k bits");
+    out
+}
+
+/// A lesson for a published parameter set: three to six samples with different n; negative, zero and positive ones among them.
+pub fn example(set: u64, seed: u64) -> Vec<u8> {
+    let (k, q) = calls::parameter_set(set).expect("a set number from 1 to 7");
+    let mut dice = Dice::new(seed, set);
+    let mut numbers_of_shares: Vec<u64> = (2..=8).collect();
+    let mut file = Vec::new();
+    for place in 0..dice.between(3, 6) {
+        let n = numbers_of_shares.remove(dice.below(numbers_of_shares.len() as u64) as usize);
+        let (x, y) = strings_of_sign(&mut dice, k, [-1, 0, 1][place as usize % 3]);
+        let (x, y, x_first) = (masked(&mut dice, n, k, x), masked(&mut dice, n, k, y), dice.one_in(2));
+        let words: Vec<u64> = (0..words_needed(n, k)).map(|_| dice.below(q)).collect();
+        file.extend(Sample { n, k, q, x, y, x_first, count: words.len() as u64, words }.bytes());
+    }
+    file
+}
