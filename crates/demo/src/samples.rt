@@ -1,6 +1,5 @@
-// The sampler, on document 01's values and on unfit input.
+// The sampler, on document 01's values and on input that no lesson file can have.
 use crate::print;
-use crate::table::WORDS;
 use residue::Word;
 
 fn sample(
@@ -65,51 +64,9 @@ fn values() {
     sample_tight(&[5, 3, 10, 16, 65535]);
 }
 
-// With two bits or more the order of the bits shows, with four shares or more that of the pairs.
-fn orders() {
-    sample_in(2, 2, 3329, &[1, 0], &[2, 3], &WORDS[..8]);
-    sample_in(2, 2, 3329, &[2, 0], &[1, 3], &WORDS[..8]);
-    sample_in(2, 5, 8192, &[19, 6], &[30, 9], &WORDS[..20]);
-    sample_in(3, 3, 3329, &[5, 3, 6], &[1, 7, 4], &WORDS[..36]);
-    sample_in(4, 2, 3329, &[1, 3, 2, 0], &[2, 2, 3, 1], &WORDS[..48]);
-    sample_in(4, 2, 12289, &[3, 3, 1, 0], &[0, 0, 0, 2], &WORDS);
-}
-
-// The largest and the smallest of everything.
-fn extremes() {
-    let mut eight: [Word; 8] = [65535; 8];
-    let mut nine: [Word; 9] = [65535; 9];
-    let mut rows: [Word; 256] = [4660; 256];
-    let mut more: [Word; 257] = [4660; 257];
-    let ones: [u16; 8] = [65535, 0, 0, 0, 0, 0, 0, 0];
-    let mixed: [u16; 8] = [43690, 1, 2, 3, 65535, 512, 513, 32768];
-    sample(
-        8,
-        16,
-        65535,
-        &ones,
-        &mixed,
-        &[65534; 1792],
-        &mut eight,
-        &mut rows,
-    );
-    sample(8, 16, 33, &mixed, &ones, &[32; 1793], &mut nine, &mut more);
-    sample_in(2, 1, 65535, &[1, 1], &[0, 1], &[65534, 65534, 65534, 65534]);
-}
-
-// Values j and h, and the largest n and k.
+// Sizes that no lesson file can have.
 fn unfit_sizes() {
     let words: [Word; 4] = [5, 3, 10, 16];
-    sample_in(1, 1, 17, &[1], &[1], &words);
-    sample_in(9, 1, 17, &[1, 0], &[1, 1], &words);
-    sample_in(2, 0, 17, &[1, 0], &[1, 1], &words);
-    sample_in(2, 17, 65535, &[1, 0], &[1, 1], &words);
-    sample_in(2, 1, 17, &[2, 0], &[1, 1], &words);
-    sample_in(2, 1, 17, &[1, 0], &[1, 1], &words[..3]);
-    sample_in(1, 0, 17, &[1, 0], &[1, 1], &words);
-    sample_in(2, 1, 2, &[1, 0], &[1, 1], &words);
-    sample_in(2, 16, 32, &[1, 0], &[1, 1], &words);
-    sample_in(2, 16, 33, &[1, 0], &[1, 1], &words);
     sample_in(18446744073709551615, 1, 17, &[1, 0], &[1, 1], &words);
     sample_in(2, 18446744073709551615, 17, &[1, 0], &[1, 1], &words);
 }
@@ -125,13 +82,9 @@ fn unfit_lists() {
     sample_in(2, 1, 17, &[1, 0], &[3, 2], &words);
 }
 
-// Value i, words that are unfit elsewhere, and none at all.
+// Value i.
 fn unfit_words() {
     sample_tight(&[5, 3, 17, 16]);
-    sample_tight(&[17, 3, 10, 17]);
-    sample_tight(&[5, 3, 10, 17]);
-    sample_tight(&[]);
-    sample_in(4, 2, 3328, &[1, 3, 2, 0], &[2, 2, 3, 1], &WORDS[..48]);
 }
 
 fn unfit_room() {
@@ -166,8 +119,6 @@ fn unfit_twice() {
 
 pub fn all() {
     values();
-    orders();
-    extremes();
     unfit_sizes();
     unfit_lists();
     unfit_words();

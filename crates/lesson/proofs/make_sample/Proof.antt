@@ -1,6 +1,7 @@
 -- The lists and RW are copied out of the file, and the sampler says the rest.
 use mathlib.Core.Path.{_≡_, sym, ap, _∙_}
-use Prim.Native.Nat.{_+_, _≤_}
+use mathlib.Core.List.{List}
+use Prim.Native.Nat.{ℕ, _+_, _≤_}
 use native.Mathlib.Omega.{arith}
 use lib.ListN.{length, take}
 use Rattle.checks.specs.Answers.{outcome}
@@ -32,10 +33,13 @@ fits s = omega (arith, s .pre .0 .limit, s .pre .1 .word-room)
 abbrev sample : tie.Start → Sample
 sample s = sampleOf (s .args .file .now) (s .args .layout)
 
+lent-same : (n k q : ℕ) {x x′ y y′ w w′ : List ℕ} (out work : List ℕ) → x ≡ x′ → y ≡ y′ → w ≡ w′ → sampled n k q x y w out work ≡ sampled n k q x′ y′ w′ out work
+lent-same n k q out work a b c = rw (a, b, c)
+
 -- the sampler was lent what the file says
 sampler : (c : tie.After-sample) → outcome (c .sample .result) (both (c .sample .last .1 .1 .1 .1 .1 .1 .0) (c .sample .last .1 .1 .1 .1 .1 .1 .1 .0)) ≡ sampled (sample (c .before .before .before .before .before .before .before .before .before .before .before .before .before .before .before .before .before .before .before .before .before .before .before .before .before) .n) (sample (c .before .before .before .before .before .before .before .before .before .before .before .before .before .before .before .before .before .before .before .before .before .before .before .before .before) .k) (sample (c .before .before .before .before .before .before .before .before .before .before .before .before .before .before .before .before .before .before .before .before .before .before .before .before .before) .q) (sample (c .before .before .before .before .before .before .before .before .before .before .before .before .before .before .before .before .before .before .before .before .before .before .before .before .before) .x) (sample (c .before .before .before .before .before .before .before .before .before .before .before .before .before .before .before .before .before .before .before .before .before .before .before .before .before) .y) (sample (c .before .before .before .before .before .before .before .before .before .before .before .before .before .before .before .before .before .before .before .before .before .before .before .before .before) .words) (c .before .before .before .before .before .before .before .before .before .before .before .before .before .before .before .before .before .before .before .before .before .before .before .before .before .args .out .now) (c .before .before .before .before .before .before .before .before .before .before .before .before .before .before .before .before .before .before .before .before .before .before .before .before .before .args .work .now)
 unfolding sampleOf
-sampler c = rw (x (c .before .before .before .before .before .before .before .before .before .before .before .before .before .before .before .before), y (c .before .before .before .before .before .before .before .before .before .before .before .before), words (c .before .before .before .before .before .before .before .before)) at (c .sample .ensures .0)
+sampler c = c .sample .ensures .0 ∙ lent-same _ _ _ _ _ (x (c .before .before .before .before .before .before .before .before .before .before .before .before .before .before .before .before)) (y (c .before .before .before .before .before .before .before .before .before .before .before .before)) (words (c .before .before .before .before .before .before .before .before))
 
 add-copy-shares : tie.Need-add-copy-shares
 add-copy-shares c = search needs
