@@ -186,6 +186,23 @@ refuses {A} {B} a b code position (c ∷ cs) ds e = go (refuses a b code positio
         let j : c .position ≡ position = cc in
         fail b c (cs ++ ds) h ∙ rw (i, j)
 
+-- what every check's number and position pass, a refusal's pass
+abbrev pub All : (ℕ → ℕ → Bool) → List Check → Bool
+All test [] = true
+All test (c ∷ cs) = test (c .code) (c .position) && All test cs
+
+pub refusal-passes : (test : ℕ → ℕ → Bool) {A : Type 0} (a : A) (code position : ℕ) (cs : List Check) → All test cs ≡ true → verdict cs a ≡ refused code position → test code position ≡ true
+refusal-passes test a code position [] b e = absurd (not-both (sym (pass-all a) ∙ e))
+refusal-passes test {A} a code position (c ∷ cs) b e = go (refusal-passes test a code position cs) (c .holds) refl (and-true (test (c .code) (c .position)) (All test cs) b)
+  where
+    go : (All test cs ≡ true → verdict cs a ≡ refused code position → test code position ≡ true) → (t : Bool) → c .holds ≡ t → (test (c .code) (c .position) ≡ true) × (All test cs ≡ true) → test code position ≡ true
+    go ih true h s = ih (s .1) (sym (pass a c cs h) ∙ e)
+    go ih false h s =
+        let d : _≡_ {A = Verdict A} (refused (c .code) (c .position)) (refused code position) = sym (fail a c cs h) ∙ e in
+        let i : code ≡ c .code = cc in
+        let j : position ≡ c .position = cc in
+        rw (i, j) (s .0)
+
 pub refuses-alike : {A B : Type 0} (a : A) (b : B) (code position : ℕ) (cs : List Check) → verdict cs a ≡ refused code position → verdict cs b ≡ refused code position
 refuses-alike a b code position cs e = ap (λ (ds : List Check). verdict ds b) (sym (append-nil cs)) ∙ refuses a b code position cs [] e
 

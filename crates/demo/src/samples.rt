@@ -64,11 +64,22 @@ fn values() {
     sample_tight(&[5, 3, 10, 16, 65535]);
 }
 
-// Sizes that no lesson file can have.
-fn unfit_sizes() {
+// Value j, and sizes near 2^64.
+fn unfit_shares() {
     let words: [Word; 4] = [5, 3, 10, 16];
+    sample_in(1, 1, 17, &[1], &[1], &words);
+    sample_in(9, 1, 17, &[1, 0], &[1, 1], &words);
+    sample_in(1, 0, 17, &[1, 0], &[1, 1], &words);
     sample_in(18446744073709551615, 1, 17, &[1, 0], &[1, 1], &words);
+}
+
+fn unfit_lengths() {
+    let words: [Word; 4] = [5, 3, 10, 16];
+    sample_in(2, 0, 17, &[1, 0], &[1, 1], &words);
+    sample_in(2, 17, 65535, &[1, 0], &[1, 1], &words);
     sample_in(2, 18446744073709551615, 17, &[1, 0], &[1, 1], &words);
+    sample_in(2, 1, 17, &[2, 0], &[1, 1], &words);
+    sample_in(2, 1, 17, &[1, 0], &[1, 1], &words[..3]);
 }
 
 fn unfit_lists() {
@@ -77,6 +88,10 @@ fn unfit_lists() {
     sample_in(2, 1, 17, &[1, 0, 0], &[1, 1], &words);
     sample_in(2, 1, 17, &[1, 0], &[1], &words);
     sample_in(2, 1, 17, &[1, 0], &[1, 1, 1], &words);
+}
+
+fn unfit_strings() {
+    let words: [Word; 4] = [5, 3, 10, 16];
     sample_in(2, 1, 17, &[1, 65535], &[1, 1], &words);
     sample_in(2, 1, 17, &[1, 0], &[1, 2], &words);
     sample_in(2, 1, 17, &[1, 0], &[3, 2], &words);
@@ -103,13 +118,17 @@ fn unfit_room() {
 // Each fails a check and the next one. The first that fails is answered.
 fn unfit_twice() {
     let words: [Word; 4] = [5, 3, 17, 16];
-    let mut one: [Word; 1] = [65535; 1];
-    let mut three: [Word; 3] = [4660; 3];
     sample_in(9, 17, 17, &[1, 0], &[1, 1], &words);
     sample_in(2, 17, 34, &[1, 0], &[1, 1], &words);
     sample_in(2, 1, 2, &[1], &[1, 1], &words);
     sample_in(2, 1, 17, &[1], &[1], &words);
     sample_in(2, 1, 17, &[2, 0], &[1], &words);
+}
+
+fn unfit_twice_later() {
+    let words: [Word; 4] = [5, 3, 17, 16];
+    let mut one: [Word; 1] = [65535; 1];
+    let mut three: [Word; 3] = [4660; 3];
     sample_in(2, 1, 17, &[1, 2], &[2, 1], &words);
     sample_in(2, 1, 17, &[1, 0], &[1, 2], &words[..3]);
     sample_tight(&words[..3]);
@@ -119,9 +138,12 @@ fn unfit_twice() {
 
 pub fn all() {
     values();
-    unfit_sizes();
+    unfit_shares();
+    unfit_lengths();
     unfit_lists();
+    unfit_strings();
     unfit_words();
     unfit_room();
     unfit_twice();
+    unfit_twice_later();
 }

@@ -6,17 +6,17 @@ use native.Mathlib.Numerals.{add-one}
 use native.Mathlib.Omega.{arith}
 use lib.ListN.{length, length-append}
 use Rattle.checks.specs.Laws.{Hold}
-use Rattle.lesson_file.specs.Records.{sampleOf, layoutAt, layoutChecks, fitChecks}
-use Rattle.lesson.specs.Lesson.{lessonFrom}
+use Rattle.lesson_file.specs.Records.{sampleOf, layoutAt, layoutChecks}
+use Rattle.lesson.specs.Lesson.{lessonFrom, fitChecks}
 use Rattle.text.specs.Text.{Wrote}
 use Rattle.lesson.specs.Text.{sampleLine, linesFrom}
 use Rattle.text.specs.Laws.{wrote-nothing, wrote-then}
-use Rattle.lesson.specs.Call.{Lent, sampledIn, afterLesson}
-use Rattle.lesson.specs.SampleLaws.{layout-end}
-use Rattle.lesson.specs.LessonLaws.{layout-longer, lines-sample, after-sample, lines-end, after-end}
+use Rattle.lesson.specs.Call.{SampleBuffers, sampledIn, afterLesson}
+use Rattle.lesson.specs.LessonLaws.{lines-sample, after-sample, lines-end, after-end}
+use Rattle.lesson_file.specs.Layouts.{layout-end, layout-longer}
 
 -- `done` is written; the lesson from position p on, numbered from `number`, is still to come
-pub record Progress (file : List ℕ) (first : Lent) (text : List ℕ) (start : ℕ) (now : Lent) (written : List ℕ) (p number end : ℕ) : Type 0 where
+pub record Progress (file : List ℕ) (first : SampleBuffers) (text : List ℕ) (start : ℕ) (now : SampleBuffers) (written : List ℕ) (p number end : ℕ) : Type 0 where
   pub done : List ℕ
   pub within : p ≤ length file
   pub counted : number ≤ p + 1
@@ -24,11 +24,11 @@ pub record Progress (file : List ℕ) (first : Lent) (text : List ℕ) (start : 
   pub lines : done ++ linesFrom number (lessonFrom file p) ≡ linesFrom 1 (lessonFrom file 0)
   pub buffers : afterLesson (lessonFrom file p) now ≡ afterLesson (lessonFrom file 0) first
 
-module _ (file : List ℕ) (first : Lent) (text : List ℕ) (start : ℕ) where
+module _ (file : List ℕ) (first : SampleBuffers) (text : List ℕ) (start : ℕ) where
   pub begun : Progress file first text start first text 0 1 start
   begun = record { done = []; within = omega arith; counted = omega arith; wrote = wrote-nothing text start; lines = refl; buffers = refl }
 
-  module _ (now : Lent) (written : List ℕ) (p number end : ℕ) (g : Progress file first text start now written p number end) where
+  module _ (now : SampleBuffers) (written : List ℕ) (p number end : ℕ) (g : Progress file first text start now written p number end) where
     -- there is room for the rest
     pub room : start + length (linesFrom 1 (lessonFrom file 0)) ≤ length text → end + length (linesFrom number (lessonFrom file p)) ≤ length text
     room h = omega (arith, h, g .wrote .1, ap length (sym (g .lines)) ∙ length-append (g .done) (linesFrom number (lessonFrom file p)))
@@ -49,7 +49,7 @@ module _ (file : List ℕ) (first : Lent) (text : List ℕ) (start : ℕ) where
       pub sample-room : start + length (linesFrom 1 (lessonFrom file 0)) ≤ length text → end + length line ≤ length text
       sample-room l = omega (arith, room l, ap length (lines-sample file p o h f number) ∙ length-append line _)
 
-      pub advanced : (later : Lent) (after : List ℕ) (q e : ℕ) → later ≡ sampledIn (sampleOf file (layoutAt file p)) now → q ≡ layoutAt file p .next .at → Wrote written end line after e
+      pub advanced : (later : SampleBuffers) (after : List ℕ) (q e : ℕ) → later ≡ sampledIn (sampleOf file (layoutAt file p)) now → q ≡ layoutAt file p .next .at → Wrote written end line after e
           → Progress file first text start later after q (number + 1) e
       advanced later after q e i j w =
           rw (i, j, add-one number)

@@ -4,12 +4,13 @@ use Rattle.checks.specs.Answers.{refusalReading}
 use Rattle.lesson.specs.declared.Sampled.{Sampled}
 use Rattle.lesson.specs.declared.SampleAnswer.{SampleAnswer}
 use Rattle.lesson.specs.declared.SampleAnswer.the-variants as SampleAnswer
-use Rattle.lesson.specs.Call.{Lent}
+use Rattle.lesson.specs.Call.{SampleBuffers}
 
--- of a sample: its answer, and what the lent buffers hold after it
+-- of a sample: its answer, and what the sampleBuffers buffers hold after it
 abbrev pub sampledReading : SampleAnswer → Verdict Sampled
 sampledReading (SampleAnswer.Done s) = accepted s
 sampledReading (SampleAnswer.Refused r) = refusalReading r
 
-abbrev pub sampleOutcome : SampleAnswer → Lent → Outcome Sampled Lent
+-- of a sample: its answer, and what the buffers hold after it
+abbrev pub sampleOutcome : SampleAnswer → SampleBuffers → Outcome Sampled SampleBuffers
 sampleOutcome a after = record { answer = sampledReading a; buffers = after }

@@ -2,13 +2,30 @@
 use mathlib.Core.Bool.{cond}
 use mathlib.Core.List.{List, [], _∷_}
 use Prim.Native.Nat.{ℕ, zero, suc}
-use lib.Dec.{leb}
+use lib.Dec.{leb, eqb}
 use lib.ListN.{length}
-use Rattle.checks.specs.Checks.{Verdict, accepted, refused, verdict, checked}
-use Rattle.lesson_file.specs.Records.{Sample, sampleOf, layoutAt, layoutChecks, fitChecks}
+use Rattle.checks.specs.Checks.{Check, Verdict, accepted, refused, checked, narrow, wordChecks}
+use Rattle.sampler.specs.Sampler.{sampleWords}
+use Rattle.lesson_file.specs.Records.{located, layoutRead, Sample, sampleOf}
 use Rattle.lesson_file.specs.declared.Layout.{Layout}
 
--- How a file ends: complete; refused with a number and a position at a record; or refused by the sampler's checks of a sample whose records are whole.
+-- ---- the sampler's other checks, which follow when RW is complete
+
+-- 6 to 9: 4 and 5 hold, since the lists have n words, and 10 and 11, since the buffers have room for every sample
+abbrev pub otherChecks : Sample → List Check
+otherChecks s = narrow 6 (s .k) (s .x) ∷ narrow 7 (s .k) (s .y) ∷ wordChecks (sampleWords (s .n) (s .k)) (s .q) (s .words)
+
+-- the record concerned: XB for 6, YB for 7, and RW for 8 and 9
+abbrev pub recordOf : Layout → ℕ → ℕ
+recordOf l code = cond (eqb code 6) (l .lists .x) (cond (eqb code 7) (l .lists .y) (l .lists .next .at))
+
+unfoldable pub fitChecks : List ℕ → Layout → List Check
+fitChecks file l = located (recordOf l) (otherChecks (sampleOf file l))
+
+-- ---- the lesson
+
+-- How a file ends: complete; refused with a number and a position by its length or at a record; or refused by the sampler's checks of a sample
+-- whose records are whole.
 pub data Ending : Type 0 where
   complete : Ending
   unread : ℕ → ℕ → Ending
@@ -38,7 +55,7 @@ continued file (refused code position) later = ends (unread code position)
 -- The lesson from position p on, in at most `most` samples. A file that ends after a complete sample is complete.
 unfoldable pub samplesFrom : ℕ → List ℕ → ℕ → Lesson
 samplesFrom zero file p = ends complete
-samplesFrom (suc most) file p = cond (leb (length file) p) (ends complete) (continued file (verdict (layoutChecks file p) (layoutAt file p)) (samplesFrom most file))
+samplesFrom (suc most) file p = cond (leb (length file) p) (ends complete) (continued file (layoutRead file p) (samplesFrom most file))
 
 -- Every sample has bytes, so there are no more samples than bytes.
 abbrev pub lessonFrom : List ℕ → ℕ → Lesson

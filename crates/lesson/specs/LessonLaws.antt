@@ -9,22 +9,20 @@ use lib.Dec.{leb}
 use lib.ListN.{length, length-append}
 use Rattle.checks.specs.Checks.{Verdict, accepted, refused, verdict, checked}
 use Rattle.checks.specs.Laws.{Hold, not-both, accepts, accepted-holds, accepted-answer, refuses-alike, settled-answer, settled-refused, settled-accepted}
-use Rattle.lesson_file.specs.Records.{Sample, sampleOf, layoutAt, layoutChecks, fitChecks}
-use Rattle.lesson.specs.Lesson.{Lesson, lesson, complete, unread, unfit, ends, before, judged, continued, samplesFrom, lessonFrom}
+use Rattle.lesson_file.specs.Layouts.{layout-longer}
+use Rattle.lesson_file.specs.Records.{layoutRead, Sample, sampleOf, layoutAt, layoutChecks}
+use Rattle.lesson.specs.Lesson.{Lesson, lesson, complete, unread, unfit, ends, before, judged, continued, samplesFrom, lessonFrom, fitChecks}
 use Rattle.lesson.specs.Text.{header, sampleLine, sampleLines, endingLine, refusalLine, linesFrom, lessonText}
-use Rattle.lesson.specs.Call.{Lent, sampledIn, sampledAt, sampleJudged, nextSample, afterSamples, afterLesson}
+use Rattle.lesson.specs.Call.{SampleBuffers, sampledIn, afterSamples, afterLesson}
 use Rattle.lesson_file.specs.declared.Layout.{Layout}
 use Rattle.lesson.specs.declared.Sampled.{Sampled}
 use Rattle.lesson.specs.declared.SampleAnswer.{SampleAnswer}
 use Rattle.lesson.specs.declared.SampleAnswer.the-variants.{Done, Refused}
 use Rattle.lesson.specs.Answers.{sampleOutcome}
 use Rattle.checks.specs.declared.Refusal.{Refusal}
+use Rattle.lesson.specs.Steps.{sampledAt, sampleJudged, nextSample}
 
 -- ---- how many steps are allowed
-
-pub layout-longer : (file : List ℕ) (p : ℕ) → p < layoutAt file p .next .at
-unfolding layoutAt
-layout-longer file p = omega arith
 
 samples-end : (file : List ℕ) (most p : ℕ) → length file ≤ p → samplesFrom most file p ≡ ends complete
 unfolding samplesFrom
@@ -51,7 +49,7 @@ samples-alike file (suc f) (suc g) p h l =
 
 module _ (file : List ℕ) (p : ℕ) where
   abbrev read : Verdict Layout
-  read = verdict (layoutChecks file p) (layoutAt file p)
+  read = layoutRead file p
 
   abbrev s : Sample
   s = sampleOf file (layoutAt file p)
@@ -86,7 +84,7 @@ module _ (file : List ℕ) (p : ℕ) where
     unfolding linesFrom sampleLines
     lines-sample number = rw (lesson-sample o h g) (append-assoc (sampleLine number s) (sampleLines (suc number) (later .samples)) (endingLine (later .ending)))
 
-    pub after-sample : (b : Lent) → afterLesson (lessonFrom file p) b ≡ afterLesson later (sampledIn s b)
+    pub after-sample : (b : SampleBuffers) → afterLesson (lessonFrom file p) b ≡ afterLesson later (sampledIn s b)
     unfolding afterLesson afterSamples
     after-sample b = rw (lesson-sample o h g)
 
@@ -94,13 +92,13 @@ module _ (file : List ℕ) (p : ℕ) where
   unfolding linesFrom sampleLines
   lines-end number h = rw (lesson-ends h)
 
-  pub after-end : (b : Lent) → length file ≤ p → afterLesson (lessonFrom file p) b ≡ b
+  pub after-end : (b : SampleBuffers) → length file ≤ p → afterLesson (lessonFrom file p) b ≡ b
   unfolding afterLesson afterSamples
   after-end b h = rw (lesson-ends h)
 
   -- ---- what the code learns from one sample
 
-  module _ (b : Lent) where
+  module _ (b : SampleBuffers) where
     pub next-read : Hold (layoutChecks file p) → nextSample file b p ≡ sampleJudged file b (layoutAt file p)
     unfolding nextSample
     next-read h = rw (accepts (layoutAt file p) (layoutChecks file p) h)
@@ -109,7 +107,7 @@ module _ (file : List ℕ) (p : ℕ) where
     unfolding nextSample
     next-unread code position e = rw e
 
-    module _ (after : Lent) (a : SampleAnswer) (e : sampleOutcome a after ≡ nextSample file b p) where
+    module _ (after : SampleBuffers) (a : SampleAnswer) (e : sampleOutcome a after ≡ nextSample file b p) where
       pub next-refused : (f : Refusal) → a ≡ Refused f → p < length file
           → (number : ℕ) → (linesFrom number (lessonFrom file p) ≡ refusalLine (f .code) (f .position)) × (after ≡ afterLesson (lessonFrom file p) b)
       unfolding linesFrom sampleLines afterLesson afterSamples
@@ -156,7 +154,7 @@ module _ (file : List ℕ) where
     unfolding lessonText
     text-looked-at = rw looked-at
 
-    pub after-looked-at : (b : Lent) → afterLesson (lesson file) b ≡ afterLesson (lessonFrom file 0) b
+    pub after-looked-at : (b : SampleBuffers) → afterLesson (lesson file) b ≡ afterLesson (lessonFrom file 0) b
     after-looked-at b = rw looked-at
 
   module _ (h : 60000 < length file) where
@@ -168,7 +166,7 @@ module _ (file : List ℕ) where
     unfolding lessonText linesFrom sampleLines
     text-too-long = rw too-long
 
-    pub after-too-long : (b : Lent) → afterLesson (lesson file) b ≡ b
+    pub after-too-long : (b : SampleBuffers) → afterLesson (lesson file) b ≡ b
     unfolding afterLesson afterSamples
     after-too-long b = rw too-long
 

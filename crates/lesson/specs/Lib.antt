@@ -1,6 +1,7 @@
 pub mod Lesson
 pub mod Text
 pub mod Call
+pub mod Steps
 pub mod Answers
 pub mod TextLaws
 pub mod SampleLaws

@@ -1,7 +1,7 @@
 -- The text of every file fits into its room, and the lesson program's buffers have that room.
 use mathlib.Core.Path.{_≡_, refl, sym, ap, _∙_}
-use mathlib.Core.Bool.{Bool, true, false, _&&_}
-use mathlib.Core.List.{List, [], _∷_}
+use mathlib.Core.Bool.{Bool, true, _&&_}
+use mathlib.Core.List.{List}
 use Prim.Native.Nat.{ℕ, zero, suc, _+_, _*_, _-_, _≤_, _<_}
 use native.Mathlib.Nat.{mul-le-mul}
 use native.Mathlib.Decide.{decLe}
@@ -12,7 +12,7 @@ use lib.ListN.{length, take, drop, length-append}
 use Rattle.buffers.specs.Laws.{front, take-front}
 use Rattle.buffers.specs.Positions.{at}
 use Rattle.checks.specs.Checks.{Check, Verdict, accepted, refused, verdict, checked}
-use Rattle.checks.specs.Laws.{Hold, not-both, pass, fail, pass-all, and-true, accepts, accepted-holds, accepted-answer, settled-answer, settled-done}
+use Rattle.checks.specs.Laws.{Hold, All, refusal-passes, not-both, and-true, accepts, accepted-holds, accepted-answer, settled-answer, settled-done}
 use Rattle.checks.specs.declared.Refusal.{Refusal}
 use Rattle.checks.specs.declared.Answer.{Answer}
 use Rattle.checks.specs.declared.Answer.the-variants.{Done, Refused}
@@ -21,14 +21,15 @@ use Rattle.sampler.specs.Sampler.{sampleWords}
 use Rattle.sampler.specs.Accepted.{SharedPair}
 use Rattle.sampler.specs.Calls.{length-shares, shares-below}
 use Rattle.sampler.specs.Opened.{sample-le}
-use Rattle.lesson_file.specs.Records.{number, listSize, Sample, sampleOf, layoutAt, layoutChecks, fitChecks}
-use Rattle.lesson.specs.Lesson.{lesson, lessonFrom}
+use Rattle.lesson_file.specs.Records.{layoutRead, number, listSize, Sample, sampleOf, layoutAt, layoutChecks}
+use Rattle.lesson.specs.Lesson.{lesson, lessonFrom, fitChecks}
 use Rattle.lesson.specs.Text.{sampleLine, sampleLines, refusalLine, linesFrom, lessonText, valueOf, sharesOf}
 use Rattle.lesson.specs.TextLaws.{fields-line-length, refusal-line-length}
-use Rattle.lesson.specs.Call.{WholeSample, textRoom, callChecks, Buffers, textWritten}
-use Rattle.lesson.specs.SampleLaws.{whole-sample, layout-next, layout-end, sample-pair, sample-words}
+use Rattle.lesson.specs.Call.{textRoom, callChecks, Buffers, textWritten}
+use Rattle.lesson.specs.SampleLaws.{sample-pair, sample-words}
 use Rattle.lesson.specs.LessonLaws.{lesson-unread, lesson-unfit, lines-sample, lines-end}
 use Rattle.lesson_file.specs.declared.Layout.{Layout}
+use Rattle.lesson_file.specs.Layouts.{WholeSample, whole-sample, layout-next, layout-end}
 
 -- ---- the line of a refusal
 
@@ -36,25 +37,9 @@ use Rattle.lesson_file.specs.declared.Layout.{Layout}
 abbrev isShort : ℕ → ℕ → Bool
 isShort code position = ltb code 100 && ltb position 100000
 
-abbrev areShort : List Check → Bool
-areShort [] = true
-areShort (c ∷ cs) = isShort (c .code) (c .position) && areShort cs
-
-refusal-short : {A : Type 0} (a : A) (code position : ℕ) (cs : List Check) → areShort cs ≡ true → verdict cs a ≡ refused code position → isShort code position ≡ true
-refusal-short a code position [] b e = absurd (not-both (sym (pass-all a) ∙ e))
-refusal-short {A} a code position (c ∷ cs) b e = go (refusal-short a code position cs) (c .holds) refl (and-true (isShort (c .code) (c .position)) (areShort cs) b)
-  where
-    go : (areShort cs ≡ true → verdict cs a ≡ refused code position → isShort code position ≡ true) → (t : Bool) → c .holds ≡ t → (isShort (c .code) (c .position) ≡ true) × (areShort cs ≡ true) → isShort code position ≡ true
-    go ih true h s = ih (s .1) (sym (pass a c cs h) ∙ e)
-    go ih false h s =
-        let d : _≡_ {A = Verdict A} (refused (c .code) (c .position)) (refused code position) = sym (fail a c cs h) ∙ e in
-        let i : code ≡ c .code = cc in
-        let j : position ≡ c .position = cc in
-        rw (i, j) (s .0)
-
-refusal-length : {A : Type 0} (a : A) (code position : ℕ) (cs : List Check) → areShort cs ≡ true → verdict cs a ≡ refused code position → length (refusalLine code position) ≤ 17
+refusal-length : {A : Type 0} (a : A) (code position : ℕ) (cs : List Check) → All isShort cs ≡ true → verdict cs a ≡ refused code position → length (refusalLine code position) ≤ 17
 refusal-length a code position cs b e =
-    let s = and-true (ltb code 100) (ltb position 100000) (refusal-short a code position cs b e) in
+    let s = and-true (ltb code 100) (ltb position 100000) (refusal-passes isShort a code position cs b e) in
     refusal-line-length code position (ltb-true _ _ (s .0)) (ltb-true _ _ (s .1))
 
 -- ---- the lines of a file whose records are looked at
@@ -73,7 +58,7 @@ module _ (file : List ℕ) (bytes : (i : ℕ) → at file i < 256) (limit : leng
   fits-end : (number p : ℕ) → length file ≤ p → Fits number p
   fits-end number p h = rw (lines-end file p number h) (omega arith)
 
-  fit-short : (l : Layout) → WholeSample file l → areShort (fitChecks file l) ≡ true
+  fit-short : (l : Layout) → WholeSample file l → All isShort (fitChecks file l) ≡ true
   unfolding fitChecks
   fit-short l w = rw (lt-ltb (l .lists .x) 100000 (omega (arith, w .x)), lt-ltb (l .lists .y) 100000 (omega (arith, w .y)), lt-ltb (l .lists .next .at) 100000 (omega (arith, w .words)))
 
@@ -84,7 +69,7 @@ module _ (file : List ℕ) (bytes : (i : ℕ) → at file i < 256) (limit : leng
     abbrev s : Sample
     s = sampleOf file l
 
-    layout-short : areShort (layoutChecks file p) ≡ true
+    layout-short : All isShort (layoutChecks file p) ≡ true
     unfolding layoutChecks
     layout-short =
         let n = at file (p + 2) in
@@ -104,7 +89,7 @@ module _ (file : List ℕ) (bytes : (i : ℕ) → at file i < 256) (limit : leng
 
       sample-length : p + 30 ≤ l .next .at
       unfolding sampleOf layoutAt
-      sample-length = omega (arith, layout-next file p h, sample-words file l whole g, words-least (s .n) (s .k) (pair .two) (pair .one), pair .two)
+      sample-length = omega (arith, layout-next file p, sample-words file l whole g, words-least (s .n) (s .k) (pair .two) (pair .one), pair .two)
 
       sample-line-length : (number : ℕ) → number ≤ p + 1 → length (sampleLine number s) ≤ 90
       unfolding sampleOf
@@ -122,7 +107,7 @@ module _ (file : List ℕ) (bytes : (i : ℕ) → at file i < 256) (limit : leng
           rw (lines-sample file p o h g number, length-append) (omega (arith, sample-line-length h g number m, later (l .next .at) (omega arith), layout-end file p h))
       fits-judged h (refused code position) e = rw (lesson-unfit file p code position o h e) (omega (arith, refusal-length tt code position (fitChecks file l) (fit-short l (whole-sample file p h)) e))
 
-      fits-read : (v : Verdict Layout) → verdict (layoutChecks file p) l ≡ v → Fits number p
+      fits-read : (v : Verdict Layout) → layoutRead file p ≡ v → Fits number p
       unfolding linesFrom sampleLines
       fits-read (accepted a) e = fits-judged (accepted-holds l a (layoutChecks file p) e) (checked (fitChecks file l)) refl
       fits-read (refused code position) e = rw (lesson-unread file p code position o e) (omega (arith, refusal-length l code position (layoutChecks file p) layout-short e))
@@ -134,7 +119,7 @@ module _ (file : List ℕ) (bytes : (i : ℕ) → at file i < 256) (limit : leng
     where
       go : Dec (length file ≤ p) → ((r : ℕ) → p < r → Fits (suc number) r) → Fits number p
       go (yes e) later = fits-end number p e
-      go (no e) later = fits-read p (omega arith) number m later (verdict (layoutChecks file p) (layoutAt file p)) refl
+      go (no e) later = fits-read p (omega arith) number m later (layoutRead file p) refl
 
 -- ---- the whole text
 

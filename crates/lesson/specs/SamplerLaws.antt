@@ -14,12 +14,15 @@ use Rattle.checks.specs.declared.Refusal.{Refusal}
 use Rattle.checks.specs.declared.Answer.{Answer}
 use Rattle.checks.specs.declared.Answer.the-variants.{Done, Refused}
 use Rattle.checks.specs.Answers.{outcome}
-use Rattle.lesson_file.specs.Records.{Sample, sampleOf, otherChecks, recordOf, fitChecks}
+use Rattle.lesson_file.specs.Records.{Sample, sampleOf}
 use Rattle.lesson_file.specs.RecordLaws.{length-words, located-holds, located-refuses}
-use Rattle.lesson.specs.Call.{Lent, lent, Room, WholeSample, sampledAt, loaded, sampledIn, sampleJudged}
+use Rattle.lesson.specs.Call.{SampleBuffers, sampleBuffers, loaded, sampledIn}
 use Rattle.lesson_file.specs.declared.Layout.{Layout}
+use Rattle.lesson.specs.Lesson.{otherChecks, recordOf, fitChecks}
+use Rattle.lesson.specs.Steps.{SampleRoom, sampledAt, sampleJudged}
+use Rattle.lesson_file.specs.Layouts.{WholeSample}
 
-module _ (file : List ℕ) (l : Layout) (w : WholeSample file l) (b : Lent) (r : Room (length (b .words)) (length (b .out)) (length (b .work))) where
+module _ (file : List ℕ) (l : Layout) (w : WholeSample file l) (b : SampleBuffers) (r : SampleRoom (length (b .words)) (length (b .out)) (length (b .work))) where
   abbrev s : Sample
   s = sampleOf file l
 
@@ -47,7 +50,7 @@ module _ (file : List ℕ) (l : Layout) (w : WholeSample file l) (b : Lent) (r :
 
   -- what the code learns from the sampler's answer
   module _ (words out work : List ℕ) (m : words ≡ overwrite (b .words) 0 (s .words)) (a : Answer) (e : outcome a (both out work) ≡ sampled (s .n) (s .k) (s .q) (s .x) (s .y) (s .words) (b .out) (b .work)) where
-    pub judged-done : (used : ℕ) → a ≡ Done used → record { answer = accepted record { parameters = l .parameters; used = used; next = l .next }; buffers = lent words out work } ≡ sampleJudged file b l
+    pub judged-done : (used : ℕ) → a ≡ Done used → record { answer = accepted record { parameters = l .parameters; used = used; next = l .next }; buffers = sampleBuffers words out work } ≡ sampleJudged file b l
     unfolding sampled fitChecks sampleOf
     judged-done used i =
         let d = settled-done _ _ _ (sym (ap (λ a. outcome a (both out work)) i) ∙ e) in
@@ -55,14 +58,14 @@ module _ (file : List ℕ) (l : Layout) (w : WholeSample file l) (b : Lent) (r :
         let h = located-holds (recordOf l) (otherChecks s) (accepted-holds taken used (otherChecks s) v) in
         let t = accepted-answer taken used (otherChecks s) v in
         rw (m, t)
-        (ap (λ c. record { answer = accepted (sampledAt l); buffers = lent (overwrite (b .words) 0 (s .words)) (c .out) (c .work) }) (d .1)
+        (ap (λ c. record { answer = accepted (sampledAt l); buffers = sampleBuffers (overwrite (b .words) 0 (s .words)) (c .out) (c .work) }) (d .1)
         ∙ sym (settled-accepted (sampledAt l) (fitChecks file l) (loaded s b) (sampledIn s b) h))
 
-    pub judged-refused : (f : Refusal) (position : ℕ) → a ≡ Refused f → position ≡ recordOf l (f .code) → record { answer = refused (f .code) position; buffers = lent words out work } ≡ sampleJudged file b l
+    pub judged-refused : (f : Refusal) (position : ℕ) → a ≡ Refused f → position ≡ recordOf l (f .code) → record { answer = refused (f .code) position; buffers = sampleBuffers words out work } ≡ sampleJudged file b l
     unfolding sampled fitChecks sampleOf
     judged-refused f position i j =
         let d = settled-refused _ _ _ (sym (ap (λ a. outcome a (both out work)) i) ∙ e) in
         let v = located-refuses (recordOf l) taken (sampledAt l) (f .code) (f .position) (otherChecks s) (sym others-decide ∙ d .0) in
         rw (m, j)
-        (ap (λ c. record { answer = refused (f .code) (recordOf l (f .code)); buffers = lent (overwrite (b .words) 0 (s .words)) (c .out) (c .work) }) (d .1)
+        (ap (λ c. record { answer = refused (f .code) (recordOf l (f .code)); buffers = sampleBuffers (overwrite (b .words) 0 (s .words)) (c .out) (c .work) }) (d .1)
         ∙ ap (λ u. settled u (loaded s b) (sampledIn s b)) (sym v))

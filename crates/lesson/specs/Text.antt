@@ -16,7 +16,7 @@ header = ascii "no n k q used sample shares\n"
 abbrev pub sharesOf : Sample → List ℕ
 sharesOf s = sampleShares (s .n) (s .k) (s .q) (s .x) (s .y) (s .words)
 
--- the weight of x less the weight of y
+-- The weight of x less the weight of y. It is the centred value of the shares' residue (the sampler's `shares-centred`).
 abbrev pub valueOf : Sample → ℤ
 valueOf s = differenceOfWeights (xorAll (s .x)) (xorAll (s .y))
 

@@ -9,7 +9,6 @@ use Rattle.residue.specs.Residue.{EachBelow}
 use Rattle.text.specs.Ascii.{ascii}
 use Rattle.text.specs.Text.{decimal, signed, spaced}
 use Rattle.lesson.specs.Text.{parameterFields, fieldsLine, refusalLine}
-use Rattle.text.specs.Text.{decimal, signed, spaced}
 use Rattle.text.specs.Laws.{decimal-length, signed-length, words-length, line-append}
 
 module _ (n k q used : ℕ) where

@@ -1,4 +1,4 @@
-// Lesson files (document 01, 'Lesson files and the lesson program'): the reader, and the text that the lesson program prints.
+// The text that the lesson program prints (document 01, 'Lesson files and the lesson program').
 mod lines;
 
 use checks::Answer;
@@ -18,12 +18,13 @@ ghost use Rattle.residue.specs.Residue.{reduce, total, EachBelow};
 ghost use Rattle.checks.specs.Checks.{checked};
 ghost use Rattle.checks.specs.Answers.{checkedReading, outcome};
 ghost use Rattle.masking.specs.Signed.{centredValue};
-ghost use Rattle.lesson_file.specs.Records.{recordOf};
 ghost use Rattle.text.specs.Text.{Wrote};
-ghost use Rattle.lesson.specs.Lesson.{lesson, lessonFrom};
+ghost use Rattle.lesson.specs.Lesson.{lesson, lessonFrom, recordOf};
 ghost use Rattle.lesson.specs.Text.{linesFrom, lessonText};
-ghost use Rattle.lesson.specs.Call.{lent, Room, WholeSample, sampleJudged, nextSample, openedLine, SharesIn, afterLesson, textRoom, callChecks, both, textWritten};
+ghost use Rattle.lesson.specs.Call.{sampleBuffers, afterLesson, textRoom, callChecks, withText, textWritten};
 ghost use Rattle.lesson.specs.Answers.{sampleOutcome};
+ghost use Rattle.lesson.specs.Steps.{SampleRoom, sampleJudged, nextSample, openedLine, SharesIn};
+ghost use Rattle.lesson_file.specs.Layouts.{WholeSample};
 
 // A sample that was made: its parameters, how many words it took, and where the next one begins.
 pub struct Sampled {
@@ -53,7 +54,7 @@ fn record_of(layout: Layout, code: u32) -> usize
     layout.lists.next.at
 }
 
-// The sample whose records lie there. RW's words, and no others, are lent to the sampler.
+// The sample whose records lie there. RW's words, and no others, are sampleBuffers to the sampler.
 fn make_sample(
     file: &[u8],
     layout: Layout,
@@ -61,8 +62,8 @@ fn make_sample(
     out: &mut [Word],
     work: &mut [Word],
 ) -> SampleAnswer
-    requires { ⌜ WholeSample (now file) layout × Room (length (now words)) (length (now out)) (length (now work)) ⌝ }
-    ensures { λ r. ⌜ sampleOutcome r (lent (now (words .exit)) (now (out .exit)) (now (work .exit))) ≡ sampleJudged (now (file .entry)) (lent (now (words .entry)) (now (out .entry)) (now (work .entry))) layout ⌝ }
+    requires { ⌜ WholeSample (now file) layout × SampleRoom (length (now words)) (length (now out)) (length (now work)) ⌝ }
+    ensures { λ r. ⌜ sampleOutcome r (sampleBuffers (now (words .exit)) (now (out .exit)) (now (work .exit))) ≡ sampleJudged (now (file .entry)) (sampleBuffers (now (words .entry)) (now (out .entry)) (now (work .entry))) layout ⌝ }
 {
     let parameters = layout.parameters;
     let n = parameters.n;
@@ -96,15 +97,15 @@ fn make_sample(
 }
 
 // The sample at the cursor.
-pub fn next_sample(
+fn next_sample(
     file: &[u8],
     cursor: Cursor,
     words: &mut [Word],
     out: &mut [Word],
     work: &mut [Word],
 ) -> SampleAnswer
-    requires { ⌜ (cursor .at ≤ length (now file)) × Room (length (now words)) (length (now out)) (length (now work)) ⌝ }
-    ensures { λ r. ⌜ sampleOutcome r (lent (now (words .exit)) (now (out .exit)) (now (work .exit))) ≡ nextSample (now (file .entry)) (lent (now (words .entry)) (now (out .entry)) (now (work .entry))) (cursor .at) ⌝ }
+    requires { ⌜ (cursor .at ≤ length (now file)) × SampleRoom (length (now words)) (length (now out)) (length (now work)) ⌝ }
+    ensures { λ r. ⌜ sampleOutcome r (sampleBuffers (now (words .exit)) (now (out .exit)) (now (work .exit))) ≡ nextSample (now (file .entry)) (sampleBuffers (now (words .entry)) (now (out .entry)) (now (work .entry))) (cursor .at) ⌝ }
 {
     match cursor.read_sample(file) {
         SampleRead::Refused(r) => SampleAnswer::Refused(r),
@@ -145,8 +146,8 @@ fn write_samples(
     text: &mut [u8],
     start: usize,
 ) -> usize
-    requires { ⌜ (length (now file) ≤ 60000) × Room (length (now words)) (length (now out)) (length (now work)) × (start + length (linesFrom 1 (lessonFrom (now file) 0)) ≤ length (now text)) ⌝ }
-    ensures { λ r. ⌜ (lent (now (words .exit)) (now (out .exit)) (now (work .exit)) ≡ afterLesson (lessonFrom (now (file .entry)) 0) (lent (now (words .entry)) (now (out .entry)) (now (work .entry)))) × Wrote (now (text .entry)) start (linesFrom 1 (lessonFrom (now (file .entry)) 0)) (now (text .exit)) r ⌝ }
+    requires { ⌜ (length (now file) ≤ 60000) × SampleRoom (length (now words)) (length (now out)) (length (now work)) × (start + length (linesFrom 1 (lessonFrom (now file) 0)) ≤ length (now text)) ⌝ }
+    ensures { λ r. ⌜ (sampleBuffers (now (words .exit)) (now (out .exit)) (now (work .exit)) ≡ afterLesson (lessonFrom (now (file .entry)) 0) (sampleBuffers (now (words .entry)) (now (out .entry)) (now (work .entry)))) × Wrote (now (text .entry)) start (linesFrom 1 (lessonFrom (now (file .entry)) 0)) (now (text .exit)) r ⌝ }
 {
     let mut cursor = Cursor { at: 0 };
     let mut number = 1;
@@ -174,8 +175,8 @@ fn write_lesson(
     work: &mut [Word],
     text: &mut [u8],
 ) -> usize
-    requires { ⌜ Room (length (now words)) (length (now out)) (length (now work)) × (length (lessonText (now file)) ≤ length (now text)) ⌝ }
-    ensures { λ r. ⌜ (lent (now (words .exit)) (now (out .exit)) (now (work .exit)) ≡ afterLesson (lesson (now (file .entry))) (lent (now (words .entry)) (now (out .entry)) (now (work .entry)))) × Wrote (now (text .entry)) 0 (lessonText (now (file .entry))) (now (text .exit)) r ⌝ }
+    requires { ⌜ SampleRoom (length (now words)) (length (now out)) (length (now work)) × (length (lessonText (now file)) ≤ length (now text)) ⌝ }
+    ensures { λ r. ⌜ (sampleBuffers (now (words .exit)) (now (out .exit)) (now (work .exit)) ≡ afterLesson (lesson (now (file .entry))) (sampleBuffers (now (words .entry)) (now (out .entry)) (now (work .entry)))) × Wrote (now (text .entry)) 0 (lessonText (now (file .entry))) (now (text .exit)) r ⌝ }
 {
     let start = text::write_bytes(text, 0, b"no n k q used sample shares\n");
     if FILE_LIMIT < file.len() {
@@ -205,7 +206,7 @@ fn text_room(bytes: usize) -> usize
 fn check_buffers(bytes: usize, words: usize, out: usize, area: usize, text: usize) -> Checked
     ensures { λ r. ⌜ checkedReading r ≡ checked (callChecks bytes words out area text) ⌝ }
 {
-    if words < 1792 {
+    if words < lesson_file::MOST_WORDS {
         return checks::refuse(checks::WORD_COUNT, 0);
     }
     if out < 8 {
@@ -231,7 +232,7 @@ pub fn write_text(
     work: &mut [Word],
     text: &mut [u8],
 ) -> Answer
-    ensures { λ r. ⌜ outcome r (both (lent (now (words .exit)) (now (out .exit)) (now (work .exit))) (now (text .exit))) ≡ textWritten (now (file .entry)) (now (words .entry)) (now (out .entry)) (now (work .entry)) (now (text .entry)) ⌝ }
+    ensures { λ r. ⌜ outcome r (withText (sampleBuffers (now (words .exit)) (now (out .exit)) (now (work .exit))) (now (text .exit))) ≡ textWritten (now (file .entry)) (now (words .entry)) (now (out .entry)) (now (work .entry)) (now (text .entry)) ⌝ }
 {
     if let Checked::Failed(r) = check_buffers(
         file.len(),

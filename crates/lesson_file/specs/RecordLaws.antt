@@ -1,4 +1,4 @@
--- Laws of records: what the code's tests say, and what it means that a sample's records are whole.
+-- Laws of records: what the code's tests say, checks at a position of the file, and words that are read one after the other.
 use mathlib.Core.Path.{_≡_, refl, sym, ap, _∙_}
 use mathlib.Core.Bool.{Bool, true, false, cond, _&&_}
 use mathlib.Core.List.{List, [], _∷_}
@@ -11,7 +11,7 @@ use Rattle.buffers.specs.Overwrite.{overwrite}
 use Rattle.buffers.specs.Laws.{take-front, length-overwrite}
 use Rattle.buffers.specs.Positions.{at}
 use Rattle.buffers.specs.PositionLaws.{length-table}
-use Rattle.buffers.specs.Rows.{values-none, values-next}
+use Rattle.buffers.specs.Rows.{values-none, values-next, values-all}
 use Rattle.checks.specs.Checks.{Check, Verdict, refused, verdict}
 use Rattle.checks.specs.Laws.{Hold, not-both, pass, fail, pass-all}
 use Rattle.text.specs.Ascii.{ascii}
@@ -57,25 +57,25 @@ module _ (file : List ℕ) (p n : ℕ) where
 
 -- ---- checks that are refused at a position of the file
 
-module _ (place : ℕ → ℕ) where
-  pub located-holds : (cs : List Check) → Hold cs → Hold (located place cs)
+module _ (position-of : ℕ → ℕ) where
+  pub located-holds : (cs : List Check) → Hold cs → Hold (located position-of cs)
   located-holds [] h = tt
   located-holds (c ∷ cs) h = (h .0, located-holds cs (h .1))
 
-  pub holds-located : (cs : List Check) → Hold (located place cs) → Hold cs
+  pub holds-located : (cs : List Check) → Hold (located position-of cs) → Hold cs
   holds-located [] h = tt
   holds-located (c ∷ cs) h = (h .0, holds-located cs (h .1))
 
-  pub located-refuses : {A B : Type 0} (a : A) (b : B) (code position : ℕ) (cs : List Check) → verdict cs a ≡ refused code position → verdict (located place cs) b ≡ refused code (place code)
+  pub located-refuses : {A B : Type 0} (a : A) (b : B) (code position : ℕ) (cs : List Check) → verdict cs a ≡ refused code position → verdict (located position-of cs) b ≡ refused code (position-of code)
   located-refuses a b code position [] e = absurd (not-both (sym (pass-all a) ∙ e))
   located-refuses {A} {B} a b code position (c ∷ cs) e = go (located-refuses a b code position cs) (c .holds) refl
     where
-      go : (verdict cs a ≡ refused code position → verdict (located place cs) b ≡ refused code (place code)) → (t : Bool) → c .holds ≡ t → verdict (located place (c ∷ cs)) b ≡ refused code (place code)
-      go ih true h = pass b _ (located place cs) h ∙ ih (sym (pass a c cs h) ∙ e)
+      go : (verdict cs a ≡ refused code position → verdict (located position-of cs) b ≡ refused code (position-of code)) → (t : Bool) → c .holds ≡ t → verdict (located position-of (c ∷ cs)) b ≡ refused code (position-of code)
+      go ih true h = pass b _ (located position-of cs) h ∙ ih (sym (pass a c cs h) ∙ e)
       go ih false h =
           let d : _≡_ {A = Verdict A} (refused (c .code) (c .position)) (refused code position) = sym (fail a c cs h) ∙ e in
           let i : c .code ≡ code = cc in
-          fail b _ (located place cs) h ∙ ap (λ (m : ℕ). refused m (place m)) i
+          fail b _ (located position-of cs) h ∙ ap (λ (m : ℕ). refused m (position-of m)) i
 
 -- ---- words that are read one after the other
 
@@ -94,7 +94,8 @@ module _ (file : List ℕ) (p : ℕ) where
     words-next = values-next l _
 
     pub words-all : (i count : ℕ) (t : List ℕ) → i ≡ count → t ≡ overwrite l 0 (wordsFrom file p i) → t ≡ overwrite l 0 (wordsFrom file p count)
-    words-all i count t h e = e ∙ ap (λ (m : ℕ). overwrite l 0 (wordsFrom file p m)) h
+    unfolding wordsFrom
+    words-all = values-all l _
 
     module _ (count : ℕ) (t : List ℕ) (e : t ≡ overwrite l 0 (wordsFrom file p count)) where
       pub words-taken : take count t ≡ wordsFrom file p count

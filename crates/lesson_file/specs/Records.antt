@@ -5,8 +5,7 @@ use Prim.Native.Nat.{ℕ, _+_, _*_}
 use lib.Dec.{leb, eqb}
 use lib.ListN.{length}
 use Rattle.buffers.specs.Positions.{at, table}
-use Rattle.checks.specs.Checks.{Check, parameterChecks, narrow, wordChecks}
-use Rattle.sampler.specs.Sampler.{sampleWords}
+use Rattle.checks.specs.Checks.{Check, Verdict, verdict, parameterChecks}
 use Rattle.text.specs.Ascii.{ascii}
 use Rattle.lesson_file.specs.declared.Parameters.{Parameters}
 use Rattle.lesson_file.specs.declared.Lists.{Lists}
@@ -33,17 +32,17 @@ abbrev pub whole : List ℕ → ℕ → ℕ → Check
 whole file p size = record { holds = leb (p + size) (length file); code = 19; position = p }
 
 -- 18: the mark at p is allowed there
-abbrev pub allowed : List ℕ → ℕ → List ℕ → Check
+abbrev allowed : List ℕ → ℕ → List ℕ → Check
 allowed file p mark = record { holds = marked file p mark; code = 18; position = p }
 
 -- At each record: a whole mark; a mark allowed there; all its bytes, of which there are `size`.
 abbrev pub recordChecks : List ℕ → ℕ → List ℕ → ℕ → List Check
 recordChecks file p mark size = whole file p 2 ∷ allowed file p mark ∷ whole file p size ∷ []
 
--- Checks of a call, refused at a position of the file. The number says which.
+-- Checks of a call that is put to a record: its numbers, each with a position of the file.
 abbrev pub located : (ℕ → ℕ) → List Check → List Check
-located place [] = []
-located place (c ∷ cs) = record { holds = c .holds; code = c .code; position = place (c .code) } ∷ located place cs
+located position [] = []
+located position (c ∷ cs) = record { holds = c .holds; code = c .code; position = position (c .code) } ∷ located position cs
 
 -- ---- the records
 
@@ -68,10 +67,11 @@ module _ (file : List ℕ) (p : ℕ) where
     abbrev pub orderedChecks : List ℕ → List ℕ → List Check
     orderedChecks first second = recordChecks file p first (listSize n) ++ recordChecks file (p + listSize n) second (listSize n)
 
-    -- They stand in either order, once each.
+    -- where they stand
     abbrev pub listsAt : Lists
     listsAt = record { x = cond yFirst (p + listSize n) p; y = cond yFirst p (p + listSize n); next = record { at = p + listSize n + listSize n } }
 
+    -- They stand in either order, once each.
     abbrev pub listsChecks : List Check
     listsChecks = orderedChecks (cond yFirst (ascii "YB") (ascii "XB")) (cond yFirst (ascii "XB") (ascii "YB"))
 
@@ -111,6 +111,10 @@ module _ (file : List ℕ) (p : ℕ) where
   unfoldable pub layoutChecks : List Check
   layoutChecks = parametersChecks file p ++ stringsChecks file (p + 6) (at file (p + 2))
 
+  -- the sample's records, if they are whole and its parameters fit
+  abbrev pub layoutRead : Verdict Layout
+  layoutRead = verdict layoutChecks layoutAt
+
 -- what a sample says
 pub record Sample : Type 0 where
   pub n : ℕ
@@ -131,16 +135,3 @@ module _ (file : List ℕ) (l : Layout) where
         y = wordsFrom file (l .lists .y + 2) (l .parameters .n);
         words = wordsFrom file (l .lists .next .at + 4) (l .count);
       }
-
--- ---- the sampler's other checks, which follow when RW is complete
-
--- 6 to 9
-abbrev pub otherChecks : Sample → List Check
-otherChecks s = narrow 6 (s .k) (s .x) ∷ narrow 7 (s .k) (s .y) ∷ wordChecks (sampleWords (s .n) (s .k)) (s .q) (s .words)
-
--- the record concerned: XB for 6, YB for 7, and RW for 8 and 9
-abbrev pub recordOf : Layout → ℕ → ℕ
-recordOf l code = cond (eqb code 6) (l .lists .x) (cond (eqb code 7) (l .lists .y) (l .lists .next .at))
-
-unfoldable pub fitChecks : List ℕ → Layout → List Check
-fitChecks file l = located (recordOf l) (otherChecks (sampleOf file l))

@@ -9,7 +9,7 @@ ghost use lib.ListN.{length};
 ghost use Rattle.buffers.specs.Overwrite.{overwrite};
 ghost use Rattle.checks.specs.Checks.{checked, verdict};
 ghost use Rattle.checks.specs.Answers.{checkedReading, answerReading};
-ghost use Rattle.lesson_file.specs.Records.{number, wordsFrom, marked, recordChecks, parametersAt, parametersChecks, yFirst, orderedChecks, listsAt, listsChecks, wordCount, wordsChecks, stringsChecks, layoutFrom, layoutAt, layoutChecks};
+ghost use Rattle.lesson_file.specs.Records.{number, wordsFrom, marked, recordChecks, parametersAt, parametersChecks, yFirst, orderedChecks, listsAt, listsChecks, wordCount, wordsChecks, stringsChecks, layoutFrom, layoutRead};
 ghost use Rattle.lesson_file.specs.Answers.{parametersReading, listsReading, sampleReading};
 
 // Where a record begins.
@@ -64,7 +64,7 @@ const YB: [u8; 2] = [b'Y', b'B'];
 const RW: [u8; 2] = [b'R', b'W'];
 
 // The most words that RW may have.
-const WORD_LIMIT: usize = 1792;
+pub const MOST_WORDS: usize = 1792;
 
 // A two-byte number, low byte first.
 fn number_at(file: &[u8], at: usize) -> u16
@@ -155,10 +155,9 @@ impl Cursor {
         ensures { λ r. ⌜ listsReading r ≡ verdict (listsChecks (now (file .entry)) (self .at) n) (listsAt (now (file .entry)) (self .at) n) ⌝ }
     {
         let at = self.at;
-        let second = at + (2 + 2 * n);
-        let next = Cursor {
-            at: second + (2 + 2 * n),
-        };
+        let size = 2 + 2 * n;
+        let second = at + size;
+        let next = Cursor { at: second + size };
         if is_y_first(file, at) {
             if let Checked::Failed(r) = check_lists(file, at, n, YB, XB) {
                 return ListsRead::Refused(r);
@@ -189,7 +188,7 @@ impl Cursor {
             return Answer::Refused(r);
         }
         let count = number_at(file, at + 2) as usize;
-        if WORD_LIMIT < count {
+        if MOST_WORDS < count {
             return Answer::Refused(Refusal {
                 code: checks::WORD_LIMIT,
                 position: at,
@@ -228,7 +227,7 @@ impl Cursor {
     // The records of a sample: PM, XB and YB in either order, RW.
     pub fn read_sample(self, file: &[u8]) -> SampleRead
         requires { ⌜ self .at ≤ length (now file) ⌝ }
-        ensures { λ r. ⌜ sampleReading r ≡ verdict (layoutChecks (now (file .entry)) (self .at)) (layoutAt (now (file .entry)) (self .at)) ⌝ }
+        ensures { λ r. ⌜ sampleReading r ≡ layoutRead (now (file .entry)) (self .at) ⌝ }
     {
         match self.read_parameters(file) {
             ParametersRead::Refused(r) => SampleRead::Refused(r),

@@ -21,7 +21,8 @@ fn make_text(file: &[u8], words: &mut [Word], text: &mut [u8]) -> usize
     0
 }
 
-// Reads to the end of the input, or to one byte past the 60,000 that a lesson file may have.
+// Reads to the end of the input, or to one byte past the 60,000 that a lesson file may have. What `make_text` promises is proved; that the
+// bytes read go to it, and its text to standard output, is these lines.
 fn main() {
     let mut file = [0u8; 60001];
     let mut words: [Word; 1792] = [0; 1792];

@@ -56,11 +56,11 @@ digits-same (suc m) (suc k) n h l = go (decLt n 10) (digits-same m k (n / 10))
         let s : 10 ≤ n = omega arith in
         rw (le-ltb n 10 s, e (omega arith) (omega arith))
 
-pub decimal-small : (n : ℕ) → n < 10 → decimal n ≡ (48 + n) ∷ []
+decimal-small : (n : ℕ) → n < 10 → decimal n ≡ (48 + n) ∷ []
 unfolding decimal digits
 decimal-small n h = rw (lt-ltb n 10 h)
 
-pub decimal-large : (n : ℕ) → 10 ≤ n → decimal n ≡ decimal (n / 10) ++ ((48 + n % 10) ∷ [])
+decimal-large : (n : ℕ) → 10 ≤ n → decimal n ≡ decimal (n / 10) ++ ((48 + n % 10) ∷ [])
 unfolding decimal digits
 decimal-large n h = rw (le-ltb n 10 h, digits-same n (suc (n / 10)) (n / 10) (omega arith) (omega arith))
 

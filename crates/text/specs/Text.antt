@@ -9,7 +9,7 @@ use lib.ListN.{length}
 use Rattle.buffers.specs.Overwrite.{overwrite}
 use Rattle.text.specs.Ascii.{ascii}
 
--- the decimal digits of n, in at most `most` of them
+-- the decimal digits of n, in at most `most` of them; the code of '0' is 48
 unfoldable pub digits : ℕ → ℕ → List ℕ
 digits zero n = []
 digits (suc most) n = cond (ltb n 10) ((48 + n) ∷ []) (digits most (n / 10) ++ ((48 + n % 10) ∷ []))

@@ -49,7 +49,7 @@ pub fn write_signed(text: &mut [u8], at: usize, value: i32) -> usize
     write_field(text, at, residue::magnitude(value) as usize)
 }
 
-// Words, each behind a space.
+// Words, each behind a space. Printing compares and divides them: it is for what is shown.
 pub fn write_words(text: &mut [u8], at: usize, words: &[Word]) -> usize
     requires { ⌜ at + length (spaced (map decimal (now words))) ≤ length (now text) ⌝ }
     ensures { λ r. ⌜ Wrote (now (text .entry)) at (spaced (map decimal (now (words .entry)))) (now (text .exit)) r ⌝ }

@@ -9,7 +9,7 @@ use Rattle.checks.specs.Laws.{within-true}
 use Rattle.sampler.specs.Sampler.{both, sampled}
 use Rattle.lesson_file.specs.Records.{wordsFrom, Sample, sampleOf}
 use Rattle.lesson_file.specs.RecordLaws.{length-words, words-taken, words-length}
-use Rattle.lesson.specs.Call.{lent}
+use Rattle.lesson.specs.Call.{sampleBuffers}
 use Rattle.lesson.specs.SamplerLaws.{judged-done, judged-refused}
 use borrow.Author.Needs.{needs}
 use Rattle.lesson.proofs.make_sample.Statement.{statement}
@@ -33,13 +33,13 @@ fits s = omega (arith, s .pre .0 .limit, s .pre .1 .word-room)
 abbrev sample : tie.Start → Sample
 sample s = sampleOf (s .args .file .now) (s .args .layout)
 
-lent-same : (n k q : ℕ) {x x′ y y′ w w′ : List ℕ} (out work : List ℕ) → x ≡ x′ → y ≡ y′ → w ≡ w′ → sampled n k q x y w out work ≡ sampled n k q x′ y′ w′ out work
-lent-same n k q out work a b c = rw (a, b, c)
+same-lists : (n k q : ℕ) {x x′ y y′ w w′ : List ℕ} (out work : List ℕ) → x ≡ x′ → y ≡ y′ → w ≡ w′ → sampled n k q x y w out work ≡ sampled n k q x′ y′ w′ out work
+same-lists n k q out work a b c = rw (a, b, c)
 
--- the sampler was lent what the file says
+-- the sampler was sampleBuffers what the file says
 sampler : (c : tie.After-sample) → outcome (c .sample .result) (both (c .sample .last .1 .1 .1 .1 .1 .1 .0) (c .sample .last .1 .1 .1 .1 .1 .1 .1 .0)) ≡ sampled (sample (c .before .before .before .before .before .before .before .before .before .before .before .before .before .before .before .before .before .before .before .before .before .before .before .before .before) .n) (sample (c .before .before .before .before .before .before .before .before .before .before .before .before .before .before .before .before .before .before .before .before .before .before .before .before .before) .k) (sample (c .before .before .before .before .before .before .before .before .before .before .before .before .before .before .before .before .before .before .before .before .before .before .before .before .before) .q) (sample (c .before .before .before .before .before .before .before .before .before .before .before .before .before .before .before .before .before .before .before .before .before .before .before .before .before) .x) (sample (c .before .before .before .before .before .before .before .before .before .before .before .before .before .before .before .before .before .before .before .before .before .before .before .before .before) .y) (sample (c .before .before .before .before .before .before .before .before .before .before .before .before .before .before .before .before .before .before .before .before .before .before .before .before .before) .words) (c .before .before .before .before .before .before .before .before .before .before .before .before .before .before .before .before .before .before .before .before .before .before .before .before .before .args .out .now) (c .before .before .before .before .before .before .before .before .before .before .before .before .before .before .before .before .before .before .before .before .before .before .before .before .before .args .work .now)
 unfolding sampleOf
-sampler c = c .sample .ensures .0 ∙ lent-same _ _ _ _ _ (x (c .before .before .before .before .before .before .before .before .before .before .before .before .before .before .before .before)) (y (c .before .before .before .before .before .before .before .before .before .before .before .before)) (words (c .before .before .before .before .before .before .before .before))
+sampler c = c .sample .ensures .0 ∙ same-lists _ _ _ _ _ (x (c .before .before .before .before .before .before .before .before .before .before .before .before .before .before .before .before)) (y (c .before .before .before .before .before .before .before .before .before .before .before .before)) (words (c .before .before .before .before .before .before .before .before))
 
 add-copy-shares : tie.Need-add-copy-shares
 add-copy-shares c = search needs
@@ -108,7 +108,7 @@ returns : tie.Need-returns
 unfolding sampleOf
 returns c =
     let s = c .before .before .before .before .before .before .before .before .before .before .before .before .before .before .before .before .before .before .before .before .before .before .before .before .before .before .before .before .before .before .before .before in
-    judged-done (s .args .file .now) (s .args .layout) (s .pre .0) (lent (s .args .words .now) (s .args .out .now) (s .args .work .now)) (s .pre .1) _ _ _ (c .before .before .before .before .before .before .before .before .before .before .before .before .before .before .before .copy-words .ensures) _ (sampler (c .before .before .before .before .before .before .before)) _
+    judged-done (s .args .file .now) (s .args .layout) (s .pre .0) (sampleBuffers (s .args .words .now) (s .args .out .now) (s .args .work .now)) (s .pre .1) _ _ _ (c .before .before .before .before .before .before .before .before .before .before .before .before .before .before .before .copy-words .ensures) _ (sampler (c .before .before .before .before .before .before .before)) _
     (c .before .used .given .1)
 
 same-length-4 : tie.Need-same-length-4
@@ -124,7 +124,7 @@ returns-2 : tie.Need-returns-2
 unfolding sampleOf
 returns-2 c =
     let s = c .before .before .before .before .before .before .before .before .before .before .before .before .before .before .before .before .before .before .before .before .before .before .before .before .before .before .before .before .before .before .before .before .before in
-    judged-refused (s .args .file .now) (s .args .layout) (s .pre .0) (lent (s .args .words .now) (s .args .out .now) (s .args .work .now)) (s .pre .1) _ _ _ (c .before .before .before .before .before .before .before .before .before .before .before .before .before .before .before .before .copy-words .ensures) _ (sampler (c .before .before .before .before .before .before .before .before)) _ _
+    judged-refused (s .args .file .now) (s .args .layout) (s .pre .0) (sampleBuffers (s .args .words .now) (s .args .out .now) (s .args .work .now)) (s .pre .1) _ _ _ (c .before .before .before .before .before .before .before .before .before .before .before .before .before .before .before .before .copy-words .ensures) _ (sampler (c .before .before .before .before .before .before .before .before)) _ _
     (c .before .before .r .given .1) (c .record-of .ensures)
 
 pub make-sample-spec : {M : Type 1} → statement M

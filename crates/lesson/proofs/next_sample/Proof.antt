@@ -2,13 +2,14 @@
 use mathlib.Core.Path.{_≡_, sym, ap, _∙_}
 use Rattle.checks.specs.Laws.{Hold, accepted-holds, accepted-answer}
 use Rattle.lesson_file.specs.Records.{layoutAt, layoutChecks}
-use Rattle.lesson.specs.Call.{lent, sampleJudged}
+use Rattle.lesson.specs.Call.{sampleBuffers}
 use Rattle.lesson_file.specs.Answers.{sampleReading}
-use Rattle.lesson.specs.SampleLaws.{whole-sample}
 use Rattle.lesson.specs.LessonLaws.{next-read, next-unread}
 use borrow.Author.Needs.{needs}
 use Rattle.lesson.proofs.next_sample.Statement.{statement}
 use Rattle.lesson.proofs.next_sample.Tie as tie
+use Rattle.lesson.specs.Steps.{sampleJudged}
+use Rattle.lesson_file.specs.Layouts.{whole-sample}
 
 holds : (c : tie.After-layout) → Hold (layoutChecks (c .before .before .before .before .before .before .before .args .file .now) (c .before .before .before .before .before .before .before .args .cursor .at))
 holds c = accepted-holds _ _ _ (sym (c .before .before .read-sample .ensures) ∙ ap sampleReading (c .layout .given .1))
@@ -43,8 +44,8 @@ same-length-3 c = search needs
 returns-2 : tie.Need-returns-2
 returns-2 c =
     c .before .before .before .before .before .before .make-sample .ensures
-    ∙ ap (sampleJudged (c .before .before .before .before .before .before .before .before .before .before .before .before .before .before .before .before .before .before .args .file .now) (lent (c .before .before .before .before .before .before .before .before .before .before .before .before .before .before .before .before .before .before .args .words .now) (c .before .before .before .before .before .before .before .before .before .before .before .before .before .before .before .before .before .before .args .out .now) (c .before .before .before .before .before .before .before .before .before .before .before .before .before .before .before .before .before .before .args .work .now))) (layout (c .before .before .before .before .before .before .before .before .before .before .before))
-    ∙ sym (next-read (c .before .before .before .before .before .before .before .before .before .before .before .before .before .before .before .before .before .before .args .file .now) (c .before .before .before .before .before .before .before .before .before .before .before .before .before .before .before .before .before .before .args .cursor .at) (lent (c .before .before .before .before .before .before .before .before .before .before .before .before .before .before .before .before .before .before .args .words .now) (c .before .before .before .before .before .before .before .before .before .before .before .before .before .before .before .before .before .before .args .out .now) (c .before .before .before .before .before .before .before .before .before .before .before .before .before .before .before .before .before .before .args .work .now)) (holds (c .before .before .before .before .before .before .before .before .before .before .before)))
+    ∙ ap (sampleJudged (c .before .before .before .before .before .before .before .before .before .before .before .before .before .before .before .before .before .before .args .file .now) (sampleBuffers (c .before .before .before .before .before .before .before .before .before .before .before .before .before .before .before .before .before .before .args .words .now) (c .before .before .before .before .before .before .before .before .before .before .before .before .before .before .before .before .before .before .args .out .now) (c .before .before .before .before .before .before .before .before .before .before .before .before .before .before .before .before .before .before .args .work .now))) (layout (c .before .before .before .before .before .before .before .before .before .before .before))
+    ∙ sym (next-read (c .before .before .before .before .before .before .before .before .before .before .before .before .before .before .before .before .before .before .args .file .now) (c .before .before .before .before .before .before .before .before .before .before .before .before .before .before .before .before .before .before .args .cursor .at) (sampleBuffers (c .before .before .before .before .before .before .before .before .before .before .before .before .before .before .before .before .before .before .args .words .now) (c .before .before .before .before .before .before .before .before .before .before .before .before .before .before .before .before .before .before .args .out .now) (c .before .before .before .before .before .before .before .before .before .before .before .before .before .before .before .before .before .before .args .work .now)) (holds (c .before .before .before .before .before .before .before .before .before .before .before)))
 
 pub next-sample-spec : {M : Type 1} → statement M
 next-sample-spec =

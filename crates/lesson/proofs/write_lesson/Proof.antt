@@ -7,7 +7,6 @@ use Rattle.lesson.specs.Text.{header, refusalLine, linesFrom}
 use Rattle.lesson.specs.Lesson.{lessonFrom}
 use Rattle.text.specs.Laws.{wrote-then}
 use Rattle.lesson.specs.LessonLaws.{header-fits, text-looked-at, after-looked-at, text-too-long, after-too-long}
-use borrow.Author.Needs.{needs}
 use Rattle.lesson.proofs.write_lesson.Statement.{statement}
 use Rattle.lesson.proofs.write_lesson.Tie as tie
 

@@ -5,41 +5,42 @@ use native.Mathlib.Omega.{arith}
 use lib.ListN.{length, take}
 use borrow.Author.Needs.{needs}
 use Rattle.checks.specs.Laws.{Hold}
-use Rattle.lesson_file.specs.Records.{sampleOf, layoutAt, layoutChecks, fitChecks}
-use Rattle.lesson.specs.Lesson.{lessonFrom}
+use Rattle.lesson_file.specs.Records.{sampleOf, layoutAt, layoutChecks}
+use Rattle.lesson.specs.Lesson.{lessonFrom, fitChecks}
 use Rattle.lesson.specs.Text.{linesFrom, refusalLine, sampleLine}
-use Rattle.lesson.specs.Call.{lent, Room, sampledAt, sampledIn, openedLine, SharesIn, afterLesson}
-use Rattle.lesson.specs.SampleLaws.{whole-sample, shares-in, opened-line}
-use Rattle.lesson.specs.LessonLaws.{layout-longer, next-refused, next-holds, next-sampled}
+use Rattle.lesson.specs.Call.{sampleBuffers, sampledIn, afterLesson}
+use Rattle.lesson.specs.SampleLaws.{shares-in, opened-line}
+use Rattle.lesson.specs.LessonLaws.{next-refused, next-holds, next-sampled}
 use Rattle.lesson.proofs.Progress.{Progress, begun, room, finished, ended, sample-room, advanced}
-use Rattle.lesson.proofs.Progress.{Progress, begun, room, finished, advanced}
 use Rattle.lesson.proofs.write_samples.Statement.{statement}
 use Rattle.lesson.proofs.write_samples.Tie as tie
+use Rattle.lesson.specs.Steps.{SampleRoom, sampledAt, openedLine, SharesIn}
+use Rattle.lesson_file.specs.Layouts.{whole-sample, layout-longer}
 
 abbrev Inv-loop : tie.InvT-loop
 Inv-loop file words₀ out₀ work₀ text₀ start cursor₀ number₀ end₀ words out work text cursor number end =
-    Progress file (lent words₀ out₀ work₀) text₀ start (lent words out work) text (cursor .at) number end
+    Progress file (sampleBuffers words₀ out₀ work₀) text₀ start (sampleBuffers words out work) text (cursor .at) number end
     × (length words ≡ length words₀) × (length out ≡ length out₀) × (length work ≡ length work₀) × (length text ≡ length text₀)
 
 abbrev μ-loop : tie.MeasureT-loop
 μ-loop file words₀ out₀ work₀ text₀ start cursor₀ number₀ end₀ words out work text cursor number end = length file - cursor .at
 
-lent-room : (c : tie.At-loop Inv-loop μ-loop) → Room (length (c .loop .words)) (length (c .loop .out)) (length (c .loop .work))
-lent-room c = rw (c .loop .inv .1, c .loop .inv .2, c .loop .inv .3) (c .before .before .before .before .before .before .pre .1)
+buffer-room : (c : tie.At-loop Inv-loop μ-loop) → SampleRoom (length (c .loop .words)) (length (c .loop .out)) (length (c .loop .work))
+buffer-room c = rw (c .loop .inv .1, c .loop .inv .2, c .loop .inv .3) (c .before .before .before .before .before .before .pre .1)
 
-refusal : (c : tie.After-r Inv-loop μ-loop) → (linesFrom (c .before .before .before .before .before .before .before .before .before .before .before .before .before .before .loop .number) (lessonFrom (c .before .before .before .before .before .before .before .before .before .before .before .before .before .before .before .before .before .before .before .before .args .file .now) (c .before .before .before .before .before .before .before .before .before .before .before .before .before .before .loop .cursor .at)) ≡ refusalLine (c .r .given .0 .0 .code) (c .r .given .0 .0 .position)) × ((lent (c .before .before .before .before .before .before .before .before .next-sample .last .1 .1 .0) (c .before .before .before .before .before .before .before .before .next-sample .last .1 .1 .1 .0) (c .before .before .before .before .before .before .before .before .next-sample .last .1 .1 .1 .1 .0)) ≡ afterLesson (lessonFrom (c .before .before .before .before .before .before .before .before .before .before .before .before .before .before .before .before .before .before .before .before .args .file .now) (c .before .before .before .before .before .before .before .before .before .before .before .before .before .before .loop .cursor .at)) (lent (c .before .before .before .before .before .before .before .before .before .before .before .before .before .before .loop .words) (c .before .before .before .before .before .before .before .before .before .before .before .before .before .before .loop .out) (c .before .before .before .before .before .before .before .before .before .before .before .before .before .before .loop .work)))
-refusal c = next-refused (c .before .before .before .before .before .before .before .before .before .before .before .before .before .before .before .before .before .before .before .before .args .file .now) (c .before .before .before .before .before .before .before .before .before .before .before .before .before .before .loop .cursor .at) (lent (c .before .before .before .before .before .before .before .before .before .before .before .before .before .before .loop .words) (c .before .before .before .before .before .before .before .before .before .before .before .before .before .before .loop .out) (c .before .before .before .before .before .before .before .before .before .before .before .before .before .before .loop .work)) (lent (c .before .before .before .before .before .before .before .before .next-sample .last .1 .1 .0) (c .before .before .before .before .before .before .before .before .next-sample .last .1 .1 .1 .0) (c .before .before .before .before .before .before .before .before .next-sample .last .1 .1 .1 .1 .0)) _ (c .before .before .before .before .before .before .before .before .next-sample .ensures) _ (c .r .given .1) (c .before .before .before .before .before .before .before .before .before .before .before .before .if1 .taken) _
+refusal : (c : tie.After-r Inv-loop μ-loop) → (linesFrom (c .before .before .before .before .before .before .before .before .before .before .before .before .before .before .loop .number) (lessonFrom (c .before .before .before .before .before .before .before .before .before .before .before .before .before .before .before .before .before .before .before .before .args .file .now) (c .before .before .before .before .before .before .before .before .before .before .before .before .before .before .loop .cursor .at)) ≡ refusalLine (c .r .given .0 .0 .code) (c .r .given .0 .0 .position)) × ((sampleBuffers (c .before .before .before .before .before .before .before .before .next-sample .last .1 .1 .0) (c .before .before .before .before .before .before .before .before .next-sample .last .1 .1 .1 .0) (c .before .before .before .before .before .before .before .before .next-sample .last .1 .1 .1 .1 .0)) ≡ afterLesson (lessonFrom (c .before .before .before .before .before .before .before .before .before .before .before .before .before .before .before .before .before .before .before .before .args .file .now) (c .before .before .before .before .before .before .before .before .before .before .before .before .before .before .loop .cursor .at)) (sampleBuffers (c .before .before .before .before .before .before .before .before .before .before .before .before .before .before .loop .words) (c .before .before .before .before .before .before .before .before .before .before .before .before .before .before .loop .out) (c .before .before .before .before .before .before .before .before .before .before .before .before .before .before .loop .work)))
+refusal c = next-refused (c .before .before .before .before .before .before .before .before .before .before .before .before .before .before .before .before .before .before .before .before .args .file .now) (c .before .before .before .before .before .before .before .before .before .before .before .before .before .before .loop .cursor .at) (sampleBuffers (c .before .before .before .before .before .before .before .before .before .before .before .before .before .before .loop .words) (c .before .before .before .before .before .before .before .before .before .before .before .before .before .before .loop .out) (c .before .before .before .before .before .before .before .before .before .before .before .before .before .before .loop .work)) (sampleBuffers (c .before .before .before .before .before .before .before .before .next-sample .last .1 .1 .0) (c .before .before .before .before .before .before .before .before .next-sample .last .1 .1 .1 .0) (c .before .before .before .before .before .before .before .before .next-sample .last .1 .1 .1 .1 .0)) _ (c .before .before .before .before .before .before .before .before .next-sample .ensures) _ (c .r .given .1) (c .before .before .before .before .before .before .before .before .before .before .before .before .if1 .taken) _
 
 holds : (c : tie.After-sampled Inv-loop μ-loop) → Hold (layoutChecks (c .before .before .before .before .before .before .before .before .before .before .before .before .before .before .before .before .before .before .before .before .args .file .now) (c .before .before .before .before .before .before .before .before .before .before .before .before .before .before .loop .cursor .at)) × Hold (fitChecks (c .before .before .before .before .before .before .before .before .before .before .before .before .before .before .before .before .before .before .before .before .args .file .now) (layoutAt (c .before .before .before .before .before .before .before .before .before .before .before .before .before .before .before .before .before .before .before .before .args .file .now) (c .before .before .before .before .before .before .before .before .before .before .before .before .before .before .loop .cursor .at)))
-holds c = next-holds (c .before .before .before .before .before .before .before .before .before .before .before .before .before .before .before .before .before .before .before .before .args .file .now) (c .before .before .before .before .before .before .before .before .before .before .before .before .before .before .loop .cursor .at) (lent (c .before .before .before .before .before .before .before .before .before .before .before .before .before .before .loop .words) (c .before .before .before .before .before .before .before .before .before .before .before .before .before .before .loop .out) (c .before .before .before .before .before .before .before .before .before .before .before .before .before .before .loop .work)) (lent (c .before .before .before .before .before .before .before .before .next-sample .last .1 .1 .0) (c .before .before .before .before .before .before .before .before .next-sample .last .1 .1 .1 .0) (c .before .before .before .before .before .before .before .before .next-sample .last .1 .1 .1 .1 .0)) _ (c .before .before .before .before .before .before .before .before .next-sample .ensures) _ (c .sampled .given .1)
+holds c = next-holds (c .before .before .before .before .before .before .before .before .before .before .before .before .before .before .before .before .before .before .before .before .args .file .now) (c .before .before .before .before .before .before .before .before .before .before .before .before .before .before .loop .cursor .at) (sampleBuffers (c .before .before .before .before .before .before .before .before .before .before .before .before .before .before .loop .words) (c .before .before .before .before .before .before .before .before .before .before .before .before .before .before .loop .out) (c .before .before .before .before .before .before .before .before .before .before .before .before .before .before .loop .work)) (sampleBuffers (c .before .before .before .before .before .before .before .before .next-sample .last .1 .1 .0) (c .before .before .before .before .before .before .before .before .next-sample .last .1 .1 .1 .0) (c .before .before .before .before .before .before .before .before .next-sample .last .1 .1 .1 .1 .0)) _ (c .before .before .before .before .before .before .before .before .next-sample .ensures) _ (c .sampled .given .1)
 
-made : (c : tie.After-sampled Inv-loop μ-loop) → (c .sampled .given .0 .0 ≡ sampledAt (layoutAt (c .before .before .before .before .before .before .before .before .before .before .before .before .before .before .before .before .before .before .before .before .args .file .now) (c .before .before .before .before .before .before .before .before .before .before .before .before .before .before .loop .cursor .at))) × ((lent (c .before .before .before .before .before .before .before .before .next-sample .last .1 .1 .0) (c .before .before .before .before .before .before .before .before .next-sample .last .1 .1 .1 .0) (c .before .before .before .before .before .before .before .before .next-sample .last .1 .1 .1 .1 .0)) ≡ sampledIn (sampleOf (c .before .before .before .before .before .before .before .before .before .before .before .before .before .before .before .before .before .before .before .before .args .file .now) (layoutAt (c .before .before .before .before .before .before .before .before .before .before .before .before .before .before .before .before .before .before .before .before .args .file .now) (c .before .before .before .before .before .before .before .before .before .before .before .before .before .before .loop .cursor .at))) (lent (c .before .before .before .before .before .before .before .before .before .before .before .before .before .before .loop .words) (c .before .before .before .before .before .before .before .before .before .before .before .before .before .before .loop .out) (c .before .before .before .before .before .before .before .before .before .before .before .before .before .before .loop .work)))
-made c = next-sampled (c .before .before .before .before .before .before .before .before .before .before .before .before .before .before .before .before .before .before .before .before .args .file .now) (c .before .before .before .before .before .before .before .before .before .before .before .before .before .before .loop .cursor .at) (lent (c .before .before .before .before .before .before .before .before .before .before .before .before .before .before .loop .words) (c .before .before .before .before .before .before .before .before .before .before .before .before .before .before .loop .out) (c .before .before .before .before .before .before .before .before .before .before .before .before .before .before .loop .work)) (lent (c .before .before .before .before .before .before .before .before .next-sample .last .1 .1 .0) (c .before .before .before .before .before .before .before .before .next-sample .last .1 .1 .1 .0) (c .before .before .before .before .before .before .before .before .next-sample .last .1 .1 .1 .1 .0)) _ (c .before .before .before .before .before .before .before .before .next-sample .ensures) _ (c .sampled .given .1)
+made : (c : tie.After-sampled Inv-loop μ-loop) → (c .sampled .given .0 .0 ≡ sampledAt (layoutAt (c .before .before .before .before .before .before .before .before .before .before .before .before .before .before .before .before .before .before .before .before .args .file .now) (c .before .before .before .before .before .before .before .before .before .before .before .before .before .before .loop .cursor .at))) × ((sampleBuffers (c .before .before .before .before .before .before .before .before .next-sample .last .1 .1 .0) (c .before .before .before .before .before .before .before .before .next-sample .last .1 .1 .1 .0) (c .before .before .before .before .before .before .before .before .next-sample .last .1 .1 .1 .1 .0)) ≡ sampledIn (sampleOf (c .before .before .before .before .before .before .before .before .before .before .before .before .before .before .before .before .before .before .before .before .args .file .now) (layoutAt (c .before .before .before .before .before .before .before .before .before .before .before .before .before .before .before .before .before .before .before .before .args .file .now) (c .before .before .before .before .before .before .before .before .before .before .before .before .before .before .loop .cursor .at))) (sampleBuffers (c .before .before .before .before .before .before .before .before .before .before .before .before .before .before .loop .words) (c .before .before .before .before .before .before .before .before .before .before .before .before .before .before .loop .out) (c .before .before .before .before .before .before .before .before .before .before .before .before .before .before .loop .work)))
+made c = next-sampled (c .before .before .before .before .before .before .before .before .before .before .before .before .before .before .before .before .before .before .before .before .args .file .now) (c .before .before .before .before .before .before .before .before .before .before .before .before .before .before .loop .cursor .at) (sampleBuffers (c .before .before .before .before .before .before .before .before .before .before .before .before .before .before .loop .words) (c .before .before .before .before .before .before .before .before .before .before .before .before .before .before .loop .out) (c .before .before .before .before .before .before .before .before .before .before .before .before .before .before .loop .work)) (sampleBuffers (c .before .before .before .before .before .before .before .before .next-sample .last .1 .1 .0) (c .before .before .before .before .before .before .before .before .next-sample .last .1 .1 .1 .0) (c .before .before .before .before .before .before .before .before .next-sample .last .1 .1 .1 .1 .0)) _ (c .before .before .before .before .before .before .before .before .next-sample .ensures) _ (c .sampled .given .1)
 
 shares : (c : tie.After-sampled Inv-loop μ-loop) → SharesIn (c .sampled .given .0 .0) (c .before .before .before .before .before .before .before .before .next-sample .last .1 .1 .1 .0)
 shares c =
     let h = holds c in
-    rw (made c .0, ap (λ b. b .out) (made c .1)) (shares-in _ _ (whole-sample (c .before .before .before .before .before .before .before .before .before .before .before .before .before .before .before .before .before .before .before .before .args .file .now) (c .before .before .before .before .before .before .before .before .before .before .before .before .before .before .loop .cursor .at) (h .0)) (h .1) _ (lent-room (c .before .before .before .before .before .before .before .before .before .before .before .before .before .before) .share-room))
+    rw (made c .0, ap (λ b. b .out) (made c .1)) (shares-in _ _ (whole-sample (c .before .before .before .before .before .before .before .before .before .before .before .before .before .before .before .before .before .before .before .before .args .file .now) (c .before .before .before .before .before .before .before .before .before .before .before .before .before .before .loop .cursor .at) (h .0)) (h .1) _ (buffer-room (c .before .before .before .before .before .before .before .before .before .before .before .before .before .before) .share-room))
 
 line : (c : tie.After-sampled Inv-loop μ-loop) → openedLine (c .before .before .before .before .before .before .before .before .before .before .before .before .before .before .loop .number) (c .sampled .given .0 .0) (take (c .sampled .given .0 .0 .parameters .n) (c .before .before .before .before .before .before .before .before .next-sample .last .1 .1 .1 .0)) ≡ sampleLine (c .before .before .before .before .before .before .before .before .before .before .before .before .before .before .loop .number) (sampleOf (c .before .before .before .before .before .before .before .before .before .before .before .before .before .before .before .before .before .before .before .before .args .file .now) (layoutAt (c .before .before .before .before .before .before .before .before .before .before .before .before .before .before .before .before .before .before .before .before .args .file .now) (c .before .before .before .before .before .before .before .before .before .before .before .before .before .before .loop .cursor .at)))
 line c =

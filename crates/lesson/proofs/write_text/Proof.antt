@@ -11,15 +11,14 @@ use Rattle.buffers.specs.Overwrite.{overwrite}
 use Rattle.checks.specs.declared.Answer.the-variants.{Done}
 use Rattle.checks.specs.Answers.{outcome}
 use Rattle.checks.specs.Laws.{Hold, checks-hold, settles-accepted, settles-refused}
-use Rattle.lesson.specs.Call.{Lent, lent, textRoom, callChecks, both, textWritten}
+use Rattle.lesson.specs.Call.{SampleBuffers, sampleBuffers, textRoom, callChecks, withText, textWritten}
 use Rattle.text.specs.Text.{Wrote}
 use Rattle.lesson.specs.Room.{text-length}
-use borrow.Author.Needs.{needs}
 use Rattle.lesson.proofs.write_text.Statement.{statement}
 use Rattle.lesson.proofs.write_text.Tie as tie
 
 -- the text and its length, and the buffers after the lesson
-written : (b d : Lent) (text piece after : List ℕ) (count : ℕ) → b ≡ d → Wrote text 0 piece after count → outcome (Done count) (both b after) ≡ outcome (Done (length piece)) (both d (overwrite text 0 piece))
+written : (b d : SampleBuffers) (text piece after : List ℕ) (count : ℕ) → b ≡ d → Wrote text 0 piece after count → outcome (Done count) (withText b after) ≡ outcome (Done (length piece)) (withText d (overwrite text 0 piece))
 written b d text piece after count e w = rw (e, w .0, w .1, zero-add (length piece))
 
 holds : (c : tie.After-enum-told) → Hold (callChecks (length (c .before .before .before .before .before .before .before .before .args .file .now)) (length (c .before .before .before .before .before .before .before .before .args .words .now)) (length (c .before .before .before .before .before .before .before .before .args .out .now)) (length (c .before .before .before .before .before .before .before .before .args .work .now)) (length (c .before .before .before .before .before .before .before .before .args .text .now)))
@@ -63,7 +62,7 @@ returns-2 c =
     let a = c .before .before .before .before .before .before .before .before .before .before .before .before .before .before .before .before .before .before .before .before .before .args in
     let e = c .before .before .before .before .before .before .before .before .write-lesson .ensures in
     written _ _ _ _ _ _ (e .0) (e .1)
-    ∙ settles-accepted _ _ (c .before .before .before .before .before .before .before .before .before .before .before .before .before .before .before .check-buffers .ensures) _ (both (lent (a .words .now) (a .out .now) (a .work .now)) (a .text .now)) _ (c .before .before .before .before .before .before .before .before .before .before .before .before .before .enum-told .given .1)
+    ∙ settles-accepted _ _ (c .before .before .before .before .before .before .before .before .before .before .before .before .before .before .before .check-buffers .ensures) _ (withText (sampleBuffers (a .words .now) (a .out .now) (a .work .now)) (a .text .now)) _ (c .before .before .before .before .before .before .before .before .before .before .before .before .before .enum-told .given .1)
 
 pub write-text-spec : {M : Type 1} → statement M
 write-text-spec =

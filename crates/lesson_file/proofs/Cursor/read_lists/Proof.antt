@@ -7,23 +7,17 @@ use borrow.Author.Needs.{needs}
 use Rattle.lesson_file.proofs.Cursor.read_lists.Statement.{statement}
 use Rattle.lesson_file.proofs.Cursor.read_lists.Tie as tie
 
-mul-second : tie.Need-mul-second
-mul-second c = search needs
+mul-size : tie.Need-mul-size
+mul-size c = search needs
+
+add-size : tie.Need-add-size
+add-size c = search needs
 
 add-second : tie.Need-add-second
 add-second c = search needs
 
-add-second-2 : tie.Need-add-second-2
-add-second-2 c = search needs
-
-mul-t9 : tie.Need-mul-t9
-mul-t9 c = search needs
-
 add-t10 : tie.Need-add-t10
 add-t10 c = search needs
-
-add-t11 : tie.Need-add-t11
-add-t11 c = search needs
 
 is-y-first-requires : tie.Need-is-y-first-requires
 is-y-first-requires c κs = search needs
@@ -62,12 +56,10 @@ pub read-lists-spec : {M : Type 1} → statement M
 read-lists-spec =
     tie.close
     (tie.spec
-    mul-second
+    mul-size
+    add-size
     add-second
-    add-second-2
-    mul-t9
     add-t10
-    add-t11
     is-y-first-requires
     check-lists-requires
     enum-known-r
