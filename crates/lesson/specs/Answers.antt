@@ -6,7 +6,6 @@ use Rattle.lesson.specs.declared.SampleAnswer.{SampleAnswer}
 use Rattle.lesson.specs.declared.SampleAnswer.the-variants as SampleAnswer
 use Rattle.lesson.specs.Call.{SampleBuffers}
 
--- of a sample: its answer, and what the sampleBuffers buffers hold after it
 abbrev pub sampledReading : SampleAnswer → Verdict Sampled
 sampledReading (SampleAnswer.Done s) = accepted s
 sampledReading (SampleAnswer.Refused r) = refusalReading r

@@ -1,4 +1,4 @@
--- The call that makes the whole text of a lesson file: its checks, and what the sampleBuffers buffers hold after it.
+-- The call that makes the whole text of a lesson file: its checks, and what the buffers hold after it.
 use mathlib.Core.Bool.{cond}
 use mathlib.Core.List.{List, [], _∷_}
 use Prim.Native.Nat.{ℕ, _+_, _*_}

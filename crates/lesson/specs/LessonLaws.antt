@@ -6,21 +6,22 @@ use Prim.Native.Nat.{ℕ, zero, suc, _+_, _≤_, _<_}
 use native.Mathlib.Omega.{arith}
 use borrow.Author.Tests.{le-leb, lt-leb}
 use lib.Dec.{leb}
-use lib.ListN.{length, length-append}
+use lib.ListN.{length, take, length-append}
 use Rattle.checks.specs.Checks.{Verdict, accepted, refused, verdict, checked}
 use Rattle.checks.specs.Laws.{Hold, not-both, accepts, accepted-holds, accepted-answer, refuses-alike, settled-answer, settled-refused, settled-accepted}
-use Rattle.lesson_file.specs.Layouts.{layout-longer}
+use Rattle.lesson_file.specs.Layouts.{whole-sample, layout-longer}
 use Rattle.lesson_file.specs.Records.{layoutRead, Sample, sampleOf, layoutAt, layoutChecks}
 use Rattle.lesson.specs.Lesson.{Lesson, lesson, complete, unread, unfit, ends, before, judged, continued, samplesFrom, lessonFrom, fitChecks}
 use Rattle.lesson.specs.Text.{header, sampleLine, sampleLines, endingLine, refusalLine, linesFrom, lessonText}
 use Rattle.lesson.specs.Call.{SampleBuffers, sampledIn, afterSamples, afterLesson}
 use Rattle.lesson_file.specs.declared.Layout.{Layout}
+use Rattle.lesson.specs.SampleLaws.{shares-in, opened-line}
 use Rattle.lesson.specs.declared.Sampled.{Sampled}
 use Rattle.lesson.specs.declared.SampleAnswer.{SampleAnswer}
 use Rattle.lesson.specs.declared.SampleAnswer.the-variants.{Done, Refused}
 use Rattle.lesson.specs.Answers.{sampleOutcome}
 use Rattle.checks.specs.declared.Refusal.{Refusal}
-use Rattle.lesson.specs.Steps.{sampledAt, sampleJudged, nextSample}
+use Rattle.lesson.specs.Steps.{openedLine, SharesIn, sampledAt, sampleJudged, nextSample}
 
 -- ---- how many steps are allowed
 
@@ -141,6 +142,13 @@ module _ (file : List ℕ) (p : ℕ) where
 
         pub next-sampled : (m ≡ sampledAt (layoutAt file p)) × (after ≡ sampledIn s b)
         next-sampled = (accepted-answer _ m _ fit-accepted, ap (λ a. a .buffers) (done ∙ next-read (next-holds .0) ∙ settled-accepted _ _ _ _ (next-holds .1)))
+
+        -- its shares stand in the output, and give its line
+        pub next-shares : 8 ≤ length (b .out) → SharesIn m (after .out)
+        next-shares h = rw (next-sampled .0, next-sampled .1) (shares-in file (layoutAt file p) (whole-sample file p (next-holds .0)) (next-holds .1) (b .out) h)
+
+        pub next-line : (number : ℕ) → openedLine number m (take (m .parameters .n) (after .out)) ≡ sampleLine number s
+        next-line number = rw (next-sampled .0, next-sampled .1) (opened-line file (layoutAt file p) (whole-sample file p (next-holds .0)) (next-holds .1) (b .out) number)
 
 -- ---- the whole file
 

@@ -54,7 +54,7 @@ fn record_of(layout: Layout, code: u32) -> usize
     layout.lists.next.at
 }
 
-// The sample whose records lie there. RW's words, and no others, are sampleBuffers to the sampler.
+// The sample whose records lie there. RW's words, and no others, are lent to the sampler.
 fn make_sample(
     file: &[u8],
     layout: Layout,

@@ -36,8 +36,11 @@ sample s = sampleOf (s .args .file .now) (s .args .layout)
 same-lists : (n k q : ℕ) {x x′ y y′ w w′ : List ℕ} (out work : List ℕ) → x ≡ x′ → y ≡ y′ → w ≡ w′ → sampled n k q x y w out work ≡ sampled n k q x′ y′ w′ out work
 same-lists n k q out work a b c = rw (a, b, c)
 
--- the sampler was sampleBuffers what the file says
-sampler : (c : tie.After-sample) → outcome (c .sample .result) (both (c .sample .last .1 .1 .1 .1 .1 .1 .0) (c .sample .last .1 .1 .1 .1 .1 .1 .1 .0)) ≡ sampled (sample (c .before .before .before .before .before .before .before .before .before .before .before .before .before .before .before .before .before .before .before .before .before .before .before .before .before) .n) (sample (c .before .before .before .before .before .before .before .before .before .before .before .before .before .before .before .before .before .before .before .before .before .before .before .before .before) .k) (sample (c .before .before .before .before .before .before .before .before .before .before .before .before .before .before .before .before .before .before .before .before .before .before .before .before .before) .q) (sample (c .before .before .before .before .before .before .before .before .before .before .before .before .before .before .before .before .before .before .before .before .before .before .before .before .before) .x) (sample (c .before .before .before .before .before .before .before .before .before .before .before .before .before .before .before .before .before .before .before .before .before .before .before .before .before) .y) (sample (c .before .before .before .before .before .before .before .before .before .before .before .before .before .before .before .before .before .before .before .before .before .before .before .before .before) .words) (c .before .before .before .before .before .before .before .before .before .before .before .before .before .before .before .before .before .before .before .before .before .before .before .before .before .args .out .now) (c .before .before .before .before .before .before .before .before .before .before .before .before .before .before .before .before .before .before .before .before .before .before .before .before .before .args .work .now)
+abbrev start : tie.After-sample → tie.Start
+start c = c .before .before .before .before .before .before .before .before .before .before .before .before .before .before .before .before .before .before .before .before .before .before .before .before .before
+
+-- the sampler was lent what the file says
+sampler : (c : tie.After-sample) → outcome (c .sample .result) (both (c .sample .last .1 .1 .1 .1 .1 .1 .0) (c .sample .last .1 .1 .1 .1 .1 .1 .1 .0)) ≡ sampled (sample (start c) .n) (sample (start c) .k) (sample (start c) .q) (sample (start c) .x) (sample (start c) .y) (sample (start c) .words) (start c .args .out .now) (start c .args .work .now)
 unfolding sampleOf
 sampler c = c .sample .ensures .0 ∙ same-lists _ _ _ _ _ (x (c .before .before .before .before .before .before .before .before .before .before .before .before .before .before .before .before)) (y (c .before .before .before .before .before .before .before .before .before .before .before .before)) (words (c .before .before .before .before .before .before .before .before))
 

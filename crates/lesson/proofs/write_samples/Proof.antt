@@ -1,6 +1,6 @@
 -- What is written and the lesson from the cursor on make the whole text, and the buffers after the rest are those after the whole.
 use mathlib.Core.Path.{_≡_, refl, ap, _∙_}
-use Prim.Native.Nat.{_-_}
+use Prim.Native.Nat.{ℕ, _<_, _-_}
 use native.Mathlib.Omega.{arith}
 use lib.ListN.{length, take}
 use borrow.Author.Needs.{needs}
@@ -8,14 +8,18 @@ use Rattle.checks.specs.Laws.{Hold}
 use Rattle.lesson_file.specs.Records.{sampleOf, layoutAt, layoutChecks}
 use Rattle.lesson.specs.Lesson.{lessonFrom, fitChecks}
 use Rattle.lesson.specs.Text.{linesFrom, refusalLine, sampleLine}
-use Rattle.lesson.specs.Call.{sampleBuffers, sampledIn, afterLesson}
-use Rattle.lesson.specs.SampleLaws.{shares-in, opened-line}
-use Rattle.lesson.specs.LessonLaws.{next-refused, next-holds, next-sampled}
+use Rattle.lesson.specs.Call.{SampleBuffers, sampleBuffers, sampledIn, afterLesson}
+use Rattle.lesson.specs.LessonLaws.{next-shares, next-line, next-refused, next-holds, next-sampled}
 use Rattle.lesson.proofs.Progress.{Progress, begun, room, finished, ended, sample-room, advanced}
 use Rattle.lesson.proofs.write_samples.Statement.{statement}
 use Rattle.lesson.proofs.write_samples.Tie as tie
 use Rattle.lesson.specs.Steps.{SampleRoom, sampledAt, openedLine, SharesIn}
-use Rattle.lesson_file.specs.Layouts.{whole-sample, layout-longer}
+use Rattle.checks.specs.declared.Refusal.{Refusal}
+use Rattle.lesson_file.specs.declared.Layout.{Layout}
+use Rattle.lesson.specs.declared.Sampled.{Sampled}
+use Rattle.lesson.specs.declared.SampleAnswer.the-variants.{Done, Refused}
+use mathlib.Core.List.{List}
+use Rattle.lesson_file.specs.Layouts.{layout-longer}
 
 abbrev Inv-loop : tie.InvT-loop
 Inv-loop file words₀ out₀ work₀ text₀ start cursor₀ number₀ end₀ words out work text cursor number end =
@@ -28,24 +32,41 @@ abbrev μ-loop : tie.MeasureT-loop
 buffer-room : (c : tie.At-loop Inv-loop μ-loop) → SampleRoom (length (c .loop .words)) (length (c .loop .out)) (length (c .loop .work))
 buffer-room c = rw (c .loop .inv .1, c .loop .inv .2, c .loop .inv .3) (c .before .before .before .before .before .before .pre .1)
 
-refusal : (c : tie.After-r Inv-loop μ-loop) → (linesFrom (c .before .before .before .before .before .before .before .before .before .before .before .before .before .before .loop .number) (lessonFrom (c .before .before .before .before .before .before .before .before .before .before .before .before .before .before .before .before .before .before .before .before .args .file .now) (c .before .before .before .before .before .before .before .before .before .before .before .before .before .before .loop .cursor .at)) ≡ refusalLine (c .r .given .0 .0 .code) (c .r .given .0 .0 .position)) × ((sampleBuffers (c .before .before .before .before .before .before .before .before .next-sample .last .1 .1 .0) (c .before .before .before .before .before .before .before .before .next-sample .last .1 .1 .1 .0) (c .before .before .before .before .before .before .before .before .next-sample .last .1 .1 .1 .1 .0)) ≡ afterLesson (lessonFrom (c .before .before .before .before .before .before .before .before .before .before .before .before .before .before .before .before .before .before .before .before .args .file .now) (c .before .before .before .before .before .before .before .before .before .before .before .before .before .before .loop .cursor .at)) (sampleBuffers (c .before .before .before .before .before .before .before .before .before .before .before .before .before .before .loop .words) (c .before .before .before .before .before .before .before .before .before .before .before .before .before .before .loop .out) (c .before .before .before .before .before .before .before .before .before .before .before .before .before .before .loop .work)))
-refusal c = next-refused (c .before .before .before .before .before .before .before .before .before .before .before .before .before .before .before .before .before .before .before .before .args .file .now) (c .before .before .before .before .before .before .before .before .before .before .before .before .before .before .loop .cursor .at) (sampleBuffers (c .before .before .before .before .before .before .before .before .before .before .before .before .before .before .loop .words) (c .before .before .before .before .before .before .before .before .before .before .before .before .before .before .loop .out) (c .before .before .before .before .before .before .before .before .before .before .before .before .before .before .loop .work)) (sampleBuffers (c .before .before .before .before .before .before .before .before .next-sample .last .1 .1 .0) (c .before .before .before .before .before .before .before .before .next-sample .last .1 .1 .1 .0) (c .before .before .before .before .before .before .before .before .next-sample .last .1 .1 .1 .1 .0)) _ (c .before .before .before .before .before .before .before .before .next-sample .ensures) _ (c .r .given .1) (c .before .before .before .before .before .before .before .before .before .before .before .before .if1 .taken) _
+-- where a sample was read: the file, the cursor, the sample's number, its layout, and the buffers before and after it
+abbrev file : tie.After-next-sample Inv-loop μ-loop → List ℕ
+file d = d .before .before .before .before .before .before .before .before .before .before .before .before .args .file .now
 
-holds : (c : tie.After-sampled Inv-loop μ-loop) → Hold (layoutChecks (c .before .before .before .before .before .before .before .before .before .before .before .before .before .before .before .before .before .before .before .before .args .file .now) (c .before .before .before .before .before .before .before .before .before .before .before .before .before .before .loop .cursor .at)) × Hold (fitChecks (c .before .before .before .before .before .before .before .before .before .before .before .before .before .before .before .before .before .before .before .before .args .file .now) (layoutAt (c .before .before .before .before .before .before .before .before .before .before .before .before .before .before .before .before .before .before .before .before .args .file .now) (c .before .before .before .before .before .before .before .before .before .before .before .before .before .before .loop .cursor .at)))
-holds c = next-holds (c .before .before .before .before .before .before .before .before .before .before .before .before .before .before .before .before .before .before .before .before .args .file .now) (c .before .before .before .before .before .before .before .before .before .before .before .before .before .before .loop .cursor .at) (sampleBuffers (c .before .before .before .before .before .before .before .before .before .before .before .before .before .before .loop .words) (c .before .before .before .before .before .before .before .before .before .before .before .before .before .before .loop .out) (c .before .before .before .before .before .before .before .before .before .before .before .before .before .before .loop .work)) (sampleBuffers (c .before .before .before .before .before .before .before .before .next-sample .last .1 .1 .0) (c .before .before .before .before .before .before .before .before .next-sample .last .1 .1 .1 .0) (c .before .before .before .before .before .before .before .before .next-sample .last .1 .1 .1 .1 .0)) _ (c .before .before .before .before .before .before .before .before .next-sample .ensures) _ (c .sampled .given .1)
+abbrev cursor : tie.After-next-sample Inv-loop μ-loop → ℕ
+cursor d = d .before .before .before .before .before .before .loop .cursor .at
 
-made : (c : tie.After-sampled Inv-loop μ-loop) → (c .sampled .given .0 .0 ≡ sampledAt (layoutAt (c .before .before .before .before .before .before .before .before .before .before .before .before .before .before .before .before .before .before .before .before .args .file .now) (c .before .before .before .before .before .before .before .before .before .before .before .before .before .before .loop .cursor .at))) × ((sampleBuffers (c .before .before .before .before .before .before .before .before .next-sample .last .1 .1 .0) (c .before .before .before .before .before .before .before .before .next-sample .last .1 .1 .1 .0) (c .before .before .before .before .before .before .before .before .next-sample .last .1 .1 .1 .1 .0)) ≡ sampledIn (sampleOf (c .before .before .before .before .before .before .before .before .before .before .before .before .before .before .before .before .before .before .before .before .args .file .now) (layoutAt (c .before .before .before .before .before .before .before .before .before .before .before .before .before .before .before .before .before .before .before .before .args .file .now) (c .before .before .before .before .before .before .before .before .before .before .before .before .before .before .loop .cursor .at))) (sampleBuffers (c .before .before .before .before .before .before .before .before .before .before .before .before .before .before .loop .words) (c .before .before .before .before .before .before .before .before .before .before .before .before .before .before .loop .out) (c .before .before .before .before .before .before .before .before .before .before .before .before .before .before .loop .work)))
-made c = next-sampled (c .before .before .before .before .before .before .before .before .before .before .before .before .before .before .before .before .before .before .before .before .args .file .now) (c .before .before .before .before .before .before .before .before .before .before .before .before .before .before .loop .cursor .at) (sampleBuffers (c .before .before .before .before .before .before .before .before .before .before .before .before .before .before .loop .words) (c .before .before .before .before .before .before .before .before .before .before .before .before .before .before .loop .out) (c .before .before .before .before .before .before .before .before .before .before .before .before .before .before .loop .work)) (sampleBuffers (c .before .before .before .before .before .before .before .before .next-sample .last .1 .1 .0) (c .before .before .before .before .before .before .before .before .next-sample .last .1 .1 .1 .0) (c .before .before .before .before .before .before .before .before .next-sample .last .1 .1 .1 .1 .0)) _ (c .before .before .before .before .before .before .before .before .next-sample .ensures) _ (c .sampled .given .1)
+abbrev number : tie.After-next-sample Inv-loop μ-loop → ℕ
+number d = d .before .before .before .before .before .before .loop .number
 
-shares : (c : tie.After-sampled Inv-loop μ-loop) → SharesIn (c .sampled .given .0 .0) (c .before .before .before .before .before .before .before .before .next-sample .last .1 .1 .1 .0)
-shares c =
-    let h = holds c in
-    rw (made c .0, ap (λ b. b .out) (made c .1)) (shares-in _ _ (whole-sample (c .before .before .before .before .before .before .before .before .before .before .before .before .before .before .before .before .before .before .before .before .args .file .now) (c .before .before .before .before .before .before .before .before .before .before .before .before .before .before .loop .cursor .at) (h .0)) (h .1) _ (buffer-room (c .before .before .before .before .before .before .before .before .before .before .before .before .before .before) .share-room))
+abbrev layout : tie.After-next-sample Inv-loop μ-loop → Layout
+layout d = layoutAt (file d) (cursor d)
 
-line : (c : tie.After-sampled Inv-loop μ-loop) → openedLine (c .before .before .before .before .before .before .before .before .before .before .before .before .before .before .loop .number) (c .sampled .given .0 .0) (take (c .sampled .given .0 .0 .parameters .n) (c .before .before .before .before .before .before .before .before .next-sample .last .1 .1 .1 .0)) ≡ sampleLine (c .before .before .before .before .before .before .before .before .before .before .before .before .before .before .loop .number) (sampleOf (c .before .before .before .before .before .before .before .before .before .before .before .before .before .before .before .before .before .before .before .before .args .file .now) (layoutAt (c .before .before .before .before .before .before .before .before .before .before .before .before .before .before .before .before .before .before .before .before .args .file .now) (c .before .before .before .before .before .before .before .before .before .before .before .before .before .before .loop .cursor .at)))
-line c =
-    let h = holds c in
-    rw (made c .0, ap (λ b. b .out) (made c .1)) (opened-line _ _ (whole-sample (c .before .before .before .before .before .before .before .before .before .before .before .before .before .before .before .before .before .before .before .before .args .file .now) (c .before .before .before .before .before .before .before .before .before .before .before .before .before .before .loop .cursor .at) (h .0)) (h .1) _ _)
+abbrev before : tie.After-next-sample Inv-loop μ-loop → SampleBuffers
+before d = sampleBuffers (d .before .before .before .before .before .before .loop .words) (d .before .before .before .before .before .before .loop .out) (d .before .before .before .before .before .before .loop .work)
+
+abbrev after : tie.After-next-sample Inv-loop μ-loop → SampleBuffers
+after d = sampleBuffers (d .next-sample .last .1 .1 .0) (d .next-sample .last .1 .1 .1 .0) (d .next-sample .last .1 .1 .1 .1 .0)
+
+module _ (d : tie.After-next-sample Inv-loop μ-loop) where
+  refused-at : (f : Refusal) → d .next-sample .result ≡ Refused f → cursor d < length (file d) → (linesFrom (number d) (lessonFrom (file d) (cursor d)) ≡ refusalLine (f .code) (f .position)) × (after d ≡ afterLesson (lessonFrom (file d) (cursor d)) (before d))
+  refused-at f e o = next-refused (file d) (cursor d) (before d) (after d) _ (d .next-sample .ensures) f e o (number d)
+
+  module _ (m : Sampled) (e : d .next-sample .result ≡ Done m) where
+    holds : Hold (layoutChecks (file d) (cursor d)) × Hold (fitChecks (file d) (layout d))
+    holds = next-holds (file d) (cursor d) (before d) (after d) _ (d .next-sample .ensures) m e
+
+    made : (m ≡ sampledAt (layout d)) × (after d ≡ sampledIn (sampleOf (file d) (layout d)) (before d))
+    made = next-sampled (file d) (cursor d) (before d) (after d) _ (d .next-sample .ensures) m e
+
+    shares : SharesIn m (after d .out)
+    shares = next-shares (file d) (cursor d) (before d) (after d) _ (d .next-sample .ensures) m e (buffer-room (d .before .before .before .before .before .before) .share-room)
+
+    line : openedLine (number d) m (take (m .parameters .n) (after d .out)) ≡ sampleLine (number d) (sampleOf (file d) (layout d))
+    line = next-line (file d) (cursor d) (before d) (after d) _ (d .next-sample .ensures) m e (number d)
 
 loop-holds : tie.Need-loop-holds Inv-loop μ-loop
 loop-holds c = (begun _ _ _ _, refl, refl, refl, refl)
@@ -57,7 +78,7 @@ enum-known-r : tie.Need-enum-known-r Inv-loop μ-loop
 enum-known-r c = search needs
 
 write-refusal-requires : tie.Need-write-refusal-requires Inv-loop μ-loop
-write-refusal-requires c κs = omega (arith, room _ _ _ _ _ _ _ _ _ (c .before .before .before .before .before .before .before .before .before .before .before .before .before .before .before .before .loop .inv .0) (c .before .before .before .before .before .before .before .before .before .before .before .before .before .before .before .before .before .before .before .before .before .before .pre .2), ap length (refusal (c .before .before) .0), c .before .before .before .before .before .before .before .before .before .before .before .before .before .before .before .before .loop .inv .4)
+write-refusal-requires c κs = omega (arith, room _ _ _ _ _ _ _ _ _ (c .before .before .before .before .before .before .before .before .before .before .before .before .before .before .before .before .loop .inv .0) (c .before .before .before .before .before .before .before .before .before .before .before .before .before .before .before .before .before .before .before .before .before .before .pre .2), ap length (refused-at (c .before .before .before .before .before .before .before .before .before .before) _ (c .before .before .r .given .1) (c .before .before .before .before .before .before .before .before .before .before .before .before .before .before .if1 .taken) .0), c .before .before .before .before .before .before .before .before .before .before .before .before .before .before .before .before .loop .inv .4)
 
 same-length : tie.Need-same-length Inv-loop μ-loop
 same-length c = search needs
@@ -74,7 +95,7 @@ same-length-4 c = search needs
 returns : tie.Need-returns Inv-loop μ-loop
 returns c =
     let g = c .before .before .before .before .before .before .before .before .before .before .before .before .before .before .before .before .before .before .before .loop .inv .0 in
-    let r = refusal (c .before .before .before .before .before) in
+    let r = refused-at (c .before .before .before .before .before .before .before .before .before .before .before .before .before) _ (c .before .before .before .before .before .r .given .1) (c .before .before .before .before .before .before .before .before .before .before .before .before .before .before .before .before .before .if1 .taken) in
     (r .1 ∙ g .buffers, finished _ _ _ _ _ _ _ _ _ g _ _ (rw (r .0) (c .before .before .write-refusal .ensures)))
 
 enum-known-sampled : tie.Need-enum-known-sampled Inv-loop μ-loop
@@ -82,19 +103,22 @@ enum-known-sampled c = search needs
 
 write-sample-requires : tie.Need-write-sample-requires Inv-loop μ-loop
 write-sample-requires c κs =
-    let h = holds (c .before .before .before) in
-    (shares (c .before .before .before), omega (arith, sample-room _ _ _ _ _ _ _ _ _ (c .before .before .before .before .before .before .before .before .before .before .before .before .before .before .before .before .before .loop .inv .0) (c .before .before .before .before .before .before .before .before .before .before .before .before .before .before .before .if1 .taken) (h .0) (h .1) (c .before .before .before .before .before .before .before .before .before .before .before .before .before .before .before .before .before .before .before .before .before .before .before .pre .2), ap length (line (c .before .before .before)), c .before .before .before .before .before .before .before .before .before .before .before .before .before .before .before .before .before .loop .inv .4))
+    let e = c .before .before .before .sampled .given .1 in
+    let h = holds (c .before .before .before .before .before .before .before .before .before .before .before) _ e in
+    (shares (c .before .before .before .before .before .before .before .before .before .before .before) _ e, omega (arith, sample-room _ _ _ _ _ _ _ _ _ (c .before .before .before .before .before .before .before .before .before .before .before .before .before .before .before .before .before .loop .inv .0) (c .before .before .before .before .before .before .before .before .before .before .before .before .before .before .before .if1 .taken) (h .0) (h .1) (c .before .before .before .before .before .before .before .before .before .before .before .before .before .before .before .before .before .before .before .before .before .before .before .pre .2), ap length (line (c .before .before .before .before .before .before .before .before .before .before .before) _ e), c .before .before .before .before .before .before .before .before .before .before .before .before .before .before .before .before .before .loop .inv .4))
 
 add-number : tie.Need-add-number Inv-loop μ-loop
 add-number c = omega (arith, c .before .before .before .before .before .before .before .before .before .before .before .before .before .before .before .before .before .before .before .before .before .loop .inv .0 .counted, c .before .before .before .before .before .before .before .before .before .before .before .before .before .before .before .before .before .before .before .before .before .loop .inv .0 .within, c .before .before .before .before .before .before .before .before .before .before .before .before .before .before .before .before .before .before .before .before .before .before .before .before .before .before .before .pre .0)
 
 loop-less : tie.Need-loop-less Inv-loop μ-loop
-loop-less c = omega (arith, layout-longer (c .before .before .before .before .before .before .before .before .before .before .before .before .before .before .before .before .before .before .before .before .before .before .before .before .before .before .before .args .file .now) (c .before .before .before .before .before .before .before .before .before .before .before .before .before .before .before .before .before .before .before .before .before .loop .cursor .at), ap (λ m. m .next .at) (made (c .before .before .before .before .before .before .before) .0), c .before .before .before .before .before .before .before .before .before .before .before .before .before .before .before .before .before .before .before .if1 .taken)
+loop-less c = omega (arith, layout-longer (file (c .before .before .before .before .before .before .before .before .before .before .before .before .before .before .before)) (cursor (c .before .before .before .before .before .before .before .before .before .before .before .before .before .before .before)), ap (λ m. m .next .at) (made (c .before .before .before .before .before .before .before .before .before .before .before .before .before .before .before) _ (c .before .before .before .before .before .before .before .sampled .given .1) .0), c .before .before .before .before .before .before .before .before .before .before .before .before .before .before .before .before .before .before .before .if1 .taken)
 
 loop-again : tie.Need-loop-again Inv-loop μ-loop
 loop-again c =
-    let h = holds (c .before .before .before .before .before .before .before) in
-    (advanced _ _ _ _ _ _ _ _ _ (c .before .before .before .before .before .before .before .before .before .before .before .before .before .before .before .before .before .before .before .before .before .loop .inv .0) (c .before .before .before .before .before .before .before .before .before .before .before .before .before .before .before .before .before .before .before .if1 .taken) (h .0) (h .1) _ _ _ _ (made (c .before .before .before .before .before .before .before) .1) (ap (λ m. m .next .at) (made (c .before .before .before .before .before .before .before) .0)) (rw (← line (c .before .before .before .before .before .before .before)) (c .before .before .before .write-sample .ensures)), search needs, search needs, search needs, search needs)
+    let d = c .before .before .before .before .before .before .before .before .before .before .before .before .before .before .before in
+    let e = c .before .before .before .before .before .before .before .sampled .given .1 in
+    let h = holds d _ e in
+    (advanced _ _ _ _ _ _ _ _ _ (c .before .before .before .before .before .before .before .before .before .before .before .before .before .before .before .before .before .before .before .before .before .loop .inv .0) (c .before .before .before .before .before .before .before .before .before .before .before .before .before .before .before .before .before .before .before .if1 .taken) (h .0) (h .1) _ _ _ _ (made d _ e .1) (ap (λ m. m .next .at) (made d _ e .0)) (rw (← line d _ e) (c .before .before .before .write-sample .ensures)), search needs, search needs, search needs, search needs)
 
 same-length-5 : tie.Need-same-length-5 Inv-loop μ-loop
 same-length-5 c = search needs
