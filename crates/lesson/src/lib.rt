@@ -12,7 +12,7 @@ use masking::ResidueAnswer;
 use masking::SignedAnswer;
 use residue::Word;
 ghost use mathlib.Core.Path.{_≡_};
-ghost use Prim.Native.Nat.{_+_, _*_, _≤_};
+ghost use Prim.Native.Nat.{_+_, _≤_};
 ghost use lib.ListN.{length, take};
 ghost use Rattle.residue.specs.Residue.{reduce, total, EachBelow};
 ghost use Rattle.checks.specs.Checks.{checked};
