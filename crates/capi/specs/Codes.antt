@@ -1,0 +1,60 @@
+-- Code 0 says that a call is accepted: no refusal has the number 0.
+use mathlib.Core.Path.{_≡_, refl, sym, _∙_}
+use mathlib.Core.Bool.{Bool, true}
+use mathlib.Core.List.{List}
+use Prim.Native.Nat.{ℕ, _<_}
+use borrow.Author.Tests.{ltb-true}
+use lib.Dec.{ltb}
+use lib.ListN.{length}
+use Rattle.checks.specs.Checks.{Check, refused, verdict}
+use Rattle.checks.specs.Laws.{All, refusal-passes, settled-answer}
+use Rattle.masking.specs.Sharing.{maskChecks, masked, openStringChecks, openedString, openResidueChecks, openedResidue}
+use Rattle.masking.specs.Signed.{centreChecks, centred, weightChecks, weightDifference}
+use Rattle.masking.specs.Sets.{setChecks, parameterSet}
+use Rattle.conversion.specs.Conversion.{bitChecks, converted}
+use Rattle.sampler.specs.Sampler.{sampleChecks, sampled}
+use Rattle.lesson.specs.Call.{callChecks, textWritten}
+use Rattle.capi.specs.LessonText.{lessonTextWritten}
+
+abbrev isNumbered : ℕ → ℕ → Bool
+isNumbered code position = ltb 0 code
+
+module _ (code position : ℕ) where
+  numbered : {A : Type 0} (a : A) (cs : List Check) → All isNumbered cs ≡ true → verdict cs a ≡ refused code position → 0 < code
+  numbered a cs h e = ltb-true 0 code (refusal-passes isNumbered a code position cs h e)
+
+  pub mask-code : (n k v : ℕ) (masks out : List ℕ) → masked n k v masks out .answer ≡ refused code position → 0 < code
+  unfolding masked
+  mask-code n k v masks out e = numbered n (maskChecks n k v masks (length out)) refl (sym (settled-answer _ _ _) ∙ e)
+
+  pub open-string-code : (n k : ℕ) (shares : List ℕ) → openedString n k shares ≡ refused code position → 0 < code
+  unfolding openedString
+  open-string-code n k shares = numbered _ (openStringChecks n k shares) refl
+
+  pub open-residue-code : (n q : ℕ) (shares : List ℕ) → openedResidue n q shares ≡ refused code position → 0 < code
+  unfolding openedResidue
+  open-residue-code n q shares = numbered _ (openResidueChecks n q shares) refl
+
+  pub centred-code : (q r : ℕ) → centred q r ≡ refused code position → 0 < code
+  unfolding centred
+  centred-code q r = numbered _ (centreChecks q r) refl
+
+  pub weight-difference-code : (k x y : ℕ) → weightDifference k x y ≡ refused code position → 0 < code
+  unfolding weightDifference
+  weight-difference-code k x y = numbered _ (weightChecks k x y) refl
+
+  pub parameter-set-code : (number : ℕ) → parameterSet number ≡ refused code position → 0 < code
+  unfolding parameterSet
+  parameter-set-code number = numbered _ (setChecks number) refl
+
+  pub convert-bit-code : (n q : ℕ) (bits words out : List ℕ) → converted n q bits words out .answer ≡ refused code position → 0 < code
+  unfolding converted
+  convert-bit-code n q bits words out e = numbered _ (bitChecks n q bits words (length out)) refl (sym (settled-answer _ _ _) ∙ e)
+
+  pub sample-code : (n k q : ℕ) (x y words out work : List ℕ) → sampled n k q x y words out work .answer ≡ refused code position → 0 < code
+  unfolding sampled
+  sample-code n k q x y words out work e = numbered _ (sampleChecks n k q x y words (length out) (length work)) refl (sym (settled-answer _ _ _) ∙ e)
+
+  pub lesson-text-code : (file words text : List ℕ) → lessonTextWritten file words text .answer ≡ refused code position → 0 < code
+  unfolding textWritten
+  lesson-text-code file words text e = numbered _ (callChecks (length file) (length words) 8 256 (length text)) refl (sym (settled-answer _ _ _) ∙ e)

@@ -1,0 +1,4 @@
+pub mod Structs
+pub mod LessonText
+pub mod Codes
+pub mod Laws
