@@ -11,7 +11,8 @@ use Rattle.residue.specs.Laws.{reduce-small, reduce-lt, zero-add, add-zero, add
 use Rattle.residue.specs.Sum.{running-none, running-next, running-all, sum-last, sum-lt}
 use Rattle.buffers.specs.Positions.{at, table, after, Same, Below}
 use Rattle.buffers.specs.PositionLaws.{table-same, after-after, set-agrees}
-use Rattle.conversion.specs.Conversion.{pairs, extend, lessTwice, xorBit, xorShare, convert, refresh, convertBit, bitShares}
+use Rattle.checks.specs.Width.{bit-lowest}
+use Rattle.conversion.specs.Conversion.{bitsAt, pairs, extend, lessTwice, xorBit, xorShare, convert, refresh, convertBit, bitShares}
 use Rattle.conversion.specs.ZeroSharing.{zeroSharing, refresh-adds, refresh-cong}
 use Rattle.conversion.specs.Laws.{lessTwice-one, extend-below, extend-from, xorShare-cong, convert-reduced, convertBit-local}
 use Rattle.conversion.specs.Arrays.{Holds}
@@ -103,9 +104,9 @@ pub products : (a b : ℕ) → a ≤ 8 → b ≤ 8 → a * b ≤ 64
 products a b h l = N.mul-le-mul h l
 
 module _ (q : ℕ) (b w : ℕ → ℕ) where
-  pub one-done : (j k v : ℕ) → j ≡ suc k → k ≡ 0 → v ≡ b k → Holds j (convert q j b w) (set (replicate 8 0) 0 v)
+  pub one-list : (k v : ℕ) (a : List ℕ) → k ≡ 1 → v ≡ b 0 → Holds 1 (λ i. v) a → Holds k (convert q k b w) a
   unfolding convert
-  one-done j k v d e h = rw (d, e) (record { eight = refl; same = λ t l. let z : t ≡ 0 = omega arith in rw z (h ∙ ap b e) })
+  one-list k v a e h A = rw e (record { eight = A .eight; same = λ t l. A .same t l ∙ h })
 
   pub holds-below : (n : ℕ) (a : List ℕ) → 0 < q → b 0 < q → Holds n (convert q n b w) a → Below q n (at a)
   holds-below n a p h H i l = rw (H .same i l, ← convert-reduced q n b w h i) (reduce-lt q p (convert q n b w i))
@@ -121,6 +122,10 @@ module _ (q : ℕ) (b w : ℕ → ℕ) where
   pub bit-done : (n : ℕ) (a : List ℕ) (r : ℕ → ℕ) → b 0 < q → r ≡ after (pairs n) w → Holds n (convert q n b w) a → table n (refresh q n r (at a)) ≡ table n (convertBit q n b w)
   unfolding convertBit
   bit-done n a r h e A = rw e (table-same n _ _ (refresh-cong q n (after (pairs n) w) (at a) (convert q n b w) (λ t l. convert-reduced q n b w h t) (A .same)))
+
+-- the shares of a bit are their own lowest bits
+pub lowest-bits : (n : ℕ) (b : ℕ → ℕ) → Below 2 n b → Same n (bitsAt b 0) b
+lowest-bits n b h i l = let s = h i l in bit-lowest (b i) ∙ omega arith
 
 -- the shares, from a copy of the bits
 pub shares-of : (n q : ℕ) (b : ℕ → ℕ) (bits words : List ℕ) → b 0 < q → at bits 0 < q → Same n b (at bits) → table n (convertBit q n b (after 0 (at words))) ≡ bitShares n q bits words

@@ -8,7 +8,12 @@ use lib.ListN.{length}
 use Rattle.residue.specs.Residue.{add, sub, sum}
 use Rattle.buffers.specs.Overwrite.{overwrite}
 use Rattle.buffers.specs.Positions.{at, table, after}
+use Rattle.checks.specs.Width.{bit}
 use Rattle.checks.specs.Checks.{Check, Outcome, verdict, settled, shareCount, modulusAtLeast, exactly, narrow, atLeast, wordChecks}
+
+-- bit t of each share of a string
+abbrev pub bitsAt : (ℕ → ℕ) → ℕ → ℕ → ℕ
+bitsAt x t i = bit (x i) t
 
 -- how many pairs n shares have. Steps 1 and 2 take that many words, and step 3 again.
 unfoldable pub pairs : ℕ → ℕ

@@ -10,9 +10,10 @@ ghost use Prim.Native.Nat.{_+_, _*_, _^_, _≤_, _<_};
 ghost use lib.ListN.{length};
 ghost use Rattle.buffers.specs.Overwrite.{overwrite};
 ghost use Rattle.buffers.specs.Positions.{at, table, after, Below};
+ghost use Rattle.checks.specs.Width.{bit};
 ghost use Rattle.checks.specs.Checks.{checked};
 ghost use Rattle.checks.specs.Answers.{checkedReading, outcome};
-ghost use Rattle.conversion.specs.Conversion.{pairs, lessTwice, xorShare, convert, refresh, convertBit, bitWords, bitChecks, converted};
+ghost use Rattle.conversion.specs.Conversion.{pairs, lessTwice, xorShare, bitsAt, convert, refresh, convertBit, bitWords, bitChecks, converted};
 ghost use Rattle.conversion.specs.Secrecy.{BitSecrecy};
 ghost use Rattle.conversion.specs.Arrays.{Holds, Drawn, Modulus};
 
@@ -47,20 +48,42 @@ fn xor_share(a: [Word; 8], j: usize, bit: Word, q: Word, words: &[Word], start: 
     c
 }
 
-// Steps 1 and 2: the list for the first j shares of the bit.
-fn convert(bits: &[u16; 8], j: usize, q: Word, words: &[Word], start: usize) -> [Word; 8]
-    requires { ⌜ (1 ≤ j) × (j ≤ 8) × Modulus q × Below 2 j (at (now bits)) × Drawn q start (pairs j) (now words) ⌝ }
-    ensures { λ r. ⌜ Holds j (convert q j (at (now (bits .entry))) (after start (at (now (words .entry))))) r ⌝ }
+// Bit t of a share.
+fn bit(share: u16, t: usize) -> Word
+    requires { ⌜ t < 16 ⌝ }
+    ensures { λ r. ⌜ r ≡ bit share t ⌝ }
+{
+    residue::from_u16((share >> t) & 1)
+}
+
+// Step 1: the list for one share.
+fn one_share(bit: Word) -> [Word; 8]
+    ensures { λ r. ⌜ Holds 1 (λ i. bit) r ⌝ }
+{
+    let mut one: [Word; 8] = [0; 8];
+    one[0] = bit;
+    one
+}
+
+// Steps 1 and 2: the list for the first j shares of bit t, two or more. One share is no call of its own.
+fn convert(
+    shares: &[u16; 8],
+    t: usize,
+    j: usize,
+    q: Word,
+    words: &[Word],
+    start: usize,
+) -> [Word; 8]
+    requires { ⌜ (2 ≤ j) × (j ≤ 8) × (t < 16) × Modulus q × Drawn q start (pairs j) (now words) ⌝ }
+    ensures { λ r. ⌜ Holds j (convert q j (bitsAt (at (now (shares .entry))) t) (after start (at (now (words .entry))))) r ⌝ }
 {
     let k = j - 1;
-    let bit = residue::from_u16(bits[k]);
-    if k == 0 {
-        let mut one: [Word; 8] = [0; 8];
-        one[0] = bit;
-        return one;
-    }
-    let a = convert(bits, k, q, words, start);
-    xor_share(a, k, bit, q, words, start + k * (k - 1) / 2)
+    let a = if k == 1 {
+        one_share(bit(shares[0], t))
+    } else {
+        convert(shares, t, k, q, words, start)
+    };
+    xor_share(a, k, bit(shares[k], t), q, words, start + k * (k - 1) / 2)
 }
 
 // Step 3: every pair of the n shares takes a word from `start` on. The shares come to stand at `to` in `out` and behind.
@@ -91,9 +114,10 @@ fn refresh(
     }
 }
 
-// The n shares of a bit, from the n(n - 1) words at `start`. They come to stand at `to` in `out` and behind.
+// The n shares of bit t, from the n(n - 1) words at `start`. They come to stand at `to` in `out` and behind.
 pub fn convert_at(
-    bits: &[u16; 8],
+    shares: &[u16; 8],
+    t: usize,
     n: usize,
     q: Word,
     words: &[Word],
@@ -101,10 +125,10 @@ pub fn convert_at(
     out: &mut [Word],
     to: usize,
 )
-    requires { ⌜ (1 ≤ n) × (n ≤ 8) × Modulus q × Below 2 n (at (now bits)) × Drawn q start (bitWords n) (now words) × (to + n ≤ length (now out)) ⌝ }
-    ensures { λ _. ⌜ now (out .exit) ≡ overwrite (now (out .entry)) to (table n (convertBit q n (at (now (bits .entry))) (after start (at (now (words .entry)))))) ⌝ }
+    requires { ⌜ (2 ≤ n) × (n ≤ 8) × (t < 16) × Modulus q × Drawn q start (bitWords n) (now words) × (to + n ≤ length (now out)) ⌝ }
+    ensures { λ _. ⌜ now (out .exit) ≡ overwrite (now (out .entry)) to (table n (convertBit q n (bitsAt (at (now (shares .entry))) t) (after start (at (now (words .entry)))))) ⌝ }
 {
-    let a = convert(bits, n, q, words, start);
+    let a = convert(shares, t, n, q, words, start);
     refresh(a, n, q, words, start + n * (n - 1) / 2, out, to);
 }
 
@@ -144,6 +168,6 @@ pub fn convert_bit(n: usize, q: Word, bits: &[u16], words: &[Word], out: &mut [W
     }
     let mut shares = [0u16; 8];
     buffers::copy(&mut shares, 0, bits);
-    convert_at(&shares, n, q, words, 0, out, 0);
+    convert_at(&shares, 0, n, q, words, 0, out, 0);
     Answer::Done(n * (n - 1))
 }

@@ -17,16 +17,11 @@ use Rattle.buffers.specs.Positions.{at, table, rows, after, Same, Below}
 use Rattle.buffers.specs.PositionLaws.{after-zero, length-table, table-at, table-same}
 use Rattle.buffers.specs.Rows.{length-rows, rows-at, rows-below}
 use Rattle.checks.specs.Width.{bit, bit-lt}
-use Rattle.conversion.specs.Conversion.{convertBit, bitWords}
+use Rattle.conversion.specs.Conversion.{bitsAt, convertBit, bitWords}
 use Rattle.conversion.specs.Laws.{convertBit-local}
 use Rattle.conversion.specs.Arrays.{Drawn}
-use Rattle.sampler.specs.Sampler.{bitsAt, row, stringShare, sampleShare, sampleShares, workLength}
+use Rattle.sampler.specs.Sampler.{row, stringShare, sampleShare, sampleShares, workLength}
 use Rattle.sampler.specs.Columns.{columnShare}
-
--- ---- the bits of the shares
-
-pub bit-mask : (x t : ℕ) → bitAnd (x / 2 ^ t) 1 ≡ bit x t
-bit-mask x t = and-mask (x / 2 ^ t) 1
 
 -- ---- the row of a bit
 
@@ -34,19 +29,15 @@ bit-mask x t = and-mask (x / 2 ^ t) 1
 pub row-fits : {t k : ℕ} (m : ℕ) → t < k → t * m + m ≤ k * m
 row-fits {t} {k} m h = N.le-trans (N.le-of-eq (sym (N.suc-mul t m))) (N.mul-le-mul-right m h)
 
-module _ (q n t : ℕ) (x bits : List ℕ) (large : 2 < q) (e : bits ≡ overwrite (replicate 8 0) 0 (table n (bitsAt (at x) t))) where
-  same : Same n (at bits) (bitsAt (at x) t)
-  same i l = ap (λ (a : List ℕ). at a i) e ∙ front-below (replicate 8 0) (table n (bitsAt (at x) t)) i (omega (arith, length-table n (bitsAt (at x) t))) ∙ table-at n (bitsAt (at x) t) i l
-
-  pub bits-below : Below 2 n (at bits)
-  bits-below i l = rw (same i l) (bit-lt (at x i) t)
-
-  pub row-done : (start p : ℕ) (words : List ℕ) → 1 ≤ n → p ≡ start + t * bitWords n → table n (convertBit q n (at bits) (after p (at words))) ≡ table n (row q n (at x) (after start (at words)) t)
-  unfolding row
-  row-done start p words h d =
-      let b : at bits 0 < q = omega (arith, bits-below 0 h) in
-      let f : bitsAt (at x) t 0 < q = omega (arith, bit-lt (at x 0) t) in
-      table-same n _ _ (convertBit-local q n (at bits) (bitsAt (at x) t) _ _ b f same (λ j l. ap (at words) (omega arith)))
+-- made from a copy of the shares
+pub row-done : (q n t : ℕ) (x copy : List ℕ) → 2 < q → length x ≡ n → copy ≡ overwrite (replicate 8 0) 0 x → (start p : ℕ) (words : List ℕ) → p ≡ start + t * bitWords n
+    → table n (convertBit q n (bitsAt (at copy) t) (after p (at words))) ≡ table n (row q n (at x) (after start (at words)) t)
+unfolding row
+row-done q n t x copy large h e start p words d =
+    table-same n _ _ (convertBit-local q n (bitsAt (at copy) t) (bitsAt (at x) t) _ _ (first copy) (first x) (λ i l. ap (λ (z : ℕ). bit z t) (ap (λ (a : List ℕ). at a i) e ∙ front-below (replicate 8 0) x i (omega arith))) (λ j l. ap (at words) (omega arith)))
+  where
+    first : (l : List ℕ) → bitsAt (at l) t 0 < q
+    first l = omega (arith, bit-lt (at l 0) t)
 
 -- ---- the work area with the rows of both strings
 

@@ -7,14 +7,9 @@ use Rattle.residue.specs.Residue.{sub, sum}
 use Rattle.buffers.specs.Overwrite.{overwrite}
 use Rattle.buffers.specs.Positions.{at, table, after}
 use Rattle.checks.specs.Checks.{Check, Outcome, verdict, settled, parameterChecks, exactly, narrow, atLeast, wordChecks}
-use Rattle.checks.specs.Width.{bit}
-use Rattle.conversion.specs.Conversion.{convertBit, bitWords}
+use Rattle.conversion.specs.Conversion.{bitsAt, convertBit, bitWords}
 
 -- ---- the sample
-
--- bit t of each share
-abbrev pub bitsAt : (ℕ → ℕ) → ℕ → ℕ → ℕ
-bitsAt x t i = bit (x i) t
 
 module _ (q n : ℕ) where
   -- The n shares of bit t of a string, whose bits take the words w from bit 0 on, each the next n(n − 1).

@@ -14,19 +14,9 @@ ghost use Rattle.checks.specs.Checks.{checked};
 ghost use Rattle.checks.specs.Answers.{checkedReading, outcome};
 ghost use Rattle.conversion.specs.Conversion.{bitWords};
 ghost use Rattle.conversion.specs.Arrays.{Drawn, Modulus};
-ghost use Rattle.sampler.specs.Sampler.{bitsAt, row, sampleWords, sampleShares, workLength, pairChecks, sampleChecks, both, sampled};
+ghost use Rattle.sampler.specs.Sampler.{row, sampleWords, sampleShares, workLength, pairChecks, sampleChecks, both, sampled};
 ghost use Rattle.sampler.specs.Columns.{columnSum, columnShare};
 ghost use Rattle.sampler.specs.Secrecy.{Secrecy};
-
-// Bit t of each share, in front of `bits`.
-fn extract_bits(shares: &[u16], t: usize, bits: &mut [u16])
-    requires { ⌜ (length (now shares) ≤ length (now bits)) × (t < 16) ⌝ }
-    ensures { λ _. ⌜ now (bits .exit) ≡ overwrite (now (bits .entry)) 0 (table (length (now (shares .entry))) (bitsAt (at (now (shares .entry))) t)) ⌝ }
-{
-    for i in 0..shares.len() {
-        bits[i] = (shares[i] >> t) & 1;
-    }
-}
 
 // The rows of a string's k bits, from position `to` of the work area on. Each bit takes the next n(n - 1) words from `start` on.
 fn convert_string(
@@ -39,15 +29,15 @@ fn convert_string(
     work: &mut [Word],
     to: usize,
 )
-    requires { ⌜ (1 ≤ n) × (n ≤ 8) × (k ≤ 16) × Modulus q × (length (now shares) ≡ n) × Drawn q start (k * bitWords n) (now words) × (to + k * n ≤ length (now work)) ⌝ }
+    requires { ⌜ (2 ≤ n) × (n ≤ 8) × (k ≤ 16) × Modulus q × (length (now shares) ≡ n) × Drawn q start (k * bitWords n) (now words) × (to + k * n ≤ length (now work)) ⌝ }
     ensures { λ _. ⌜ now (work .exit) ≡ overwrite (now (work .entry)) to (rows k n (row q n (at (now (shares .entry))) (after start (at (now (words .entry)))))) ⌝ }
 {
+    let mut copy = [0u16; 8];
+    buffers::copy(&mut copy, 0, shares);
     for t in 0..k {
-        // Filled in place: an array returned by value would be copied right behind its single stores.
-        let mut bits = [0u16; 8];
-        extract_bits(shares, t, &mut bits);
         conversion::convert_at(
-            &bits,
+            &copy,
+            t,
             n,
             q,
             words,
@@ -95,7 +85,7 @@ fn write_sample(
     out: &mut [Word],
     work: &mut [Word],
 )
-    requires { ⌜ (1 ≤ n) × (n ≤ 8) × (k ≤ 16) × Modulus q × (length (now x) ≡ n) × (length (now y) ≡ n) × Drawn q 0 (sampleWords n k) (now words) × (n ≤ length (now out)) × (workLength n k ≤ length (now work)) ⌝ }
+    requires { ⌜ (2 ≤ n) × (n ≤ 8) × (k ≤ 16) × Modulus q × (length (now x) ≡ n) × (length (now y) ≡ n) × Drawn q 0 (sampleWords n k) (now words) × (n ≤ length (now out)) × (workLength n k ≤ length (now work)) ⌝ }
     ensures { λ _. ⌜ (now (out .exit) ≡ overwrite (now (out .entry)) 0 (sampleShares n k q (now (x .entry)) (now (y .entry)) (now (words .entry)))) × (now (work .exit) ≡ overwrite (now (work .entry)) 0 (replicate (workLength n k) 0)) ⌝ }
 {
     let half = k * (n * (n - 1));

@@ -1,12 +1,15 @@
--- The measure is the number of shares. Each step adds one share to the list of the step before.
+-- The measure is the number of shares. Each step adds one share to the list of the step before, which for two shares is the first one alone.
 use mathlib.Core.Path.{_≡_, sym, ap, _∙_}
+use mathlib.Core.Logic.{⊎-elim}
 use native.Mathlib.Omega.{arith}
 use Rattle.buffers.specs.Positions.{at, after}
 use Rattle.buffers.specs.PositionLaws.{after-after}
-use Rattle.conversion.specs.Conversion.{pairs}
+use Rattle.checks.specs.Width.{bit-lt}
+use Rattle.conversion.specs.Conversion.{pairs, bitsAt}
+use Rattle.conversion.specs.Conversion as C
 use Rattle.conversion.specs.Laws.{pairs-half}
-use Rattle.conversion.specs.Arrays.{drawn-part}
-use Rattle.conversion.proofs.Steps.{products, pairs-step, one-done, holds-below, share-added}
+use Rattle.conversion.specs.Arrays.{Holds, drawn-part}
+use Rattle.conversion.proofs.Steps.{products, pairs-step, one-list, holds-below, share-added}
 use borrow.Author.Needs.{needs}
 use Prim.Native.Nat.{ℕ, _+_, _-_, _*_, _/_, _<_}
 use borrow.Fn.Kinds.{In}
@@ -14,13 +17,14 @@ use borrow.Fn.PlainCycle.{Measures, is, falls, and}
 use Rattle.conversion.proofs.convert.Reads as convert
 use Rattle.conversion.proofs.convert.Kinds as convert-kinds
 use Rattle.conversion.proofs.+convert.Lts-convert as convert-lts
+use Rattle.conversion.proofs.bit.Reads as bit-reads
+use Rattle.conversion.proofs.one_share.Reads as one-share-reads
 use Rattle.conversion.proofs.xor_share.Reads as xor-share-reads
-use Rattle.residue.proofs.from_u16.Reads as from-u16-reads
 use Rattle.conversion.proofs.+convert.{statement}
 use Rattle.conversion.proofs.+convert.Tie.{close}
 
 abbrev μ-convert : Measures 2 convert-kinds.ps ℕ
-μ-convert κs a = a .1 .0
+μ-convert κs a = a .1 .1 .0
 
 abbrev convert-at : ℕ → In 2 convert-kinds.ps
 convert-at t = and 2 convert-kinds.ps (is 2 convert-kinds.ps μ-convert t) convert.Pre
@@ -28,9 +32,28 @@ convert-at t = and 2 convert-kinds.ps (is 2 convert-kinds.ps μ-convert t) conve
 abbrev convert-below : ℕ → In 2 convert-kinds.ps
 convert-below t = and 2 convert-kinds.ps (falls 2 convert-kinds.ps _<_ μ-convert t) convert.Pre
 
+-- the list that the step begins with
+list : (t : ℕ) (c : convert-lts.Joined1 (
+  bit-reads.Asked,
+  bit-reads.Learnt,
+  one-share-reads.Asked,
+  one-share-reads.Learnt,
+  convert-below t,
+  convert.Post,
+  xor-share-reads.Asked,
+  xor-share-reads.Learnt,
+) (convert-at t) convert.Post) → let s = c .before .before .args in Holds (s .j - 1) (C.convert (s .q) (s .j - 1) (bitsAt (at (s .shares .now)) (s .t)) (after (s .start) (at (s .words .now)))) (c .if1 .a)
+list t c =
+    ⊎-elim
+    (λ w. rw (w .4) (one-list _ _ _ _ _ _ (w .0 .taken) (w .2 .ensures) (w .3 .ensures)))
+    (λ w. rw (w .2) (w .1 .ensures))
+    (c .if1 .came)
+
 convert-sub-k : (t : ℕ) → convert-lts.Need-sub-k (
-  from-u16-reads.Asked,
-  from-u16-reads.Learnt,
+  bit-reads.Asked,
+  bit-reads.Learnt,
+  one-share-reads.Asked,
+  one-share-reads.Learnt,
   convert-below t,
   convert.Post,
   xor-share-reads.Asked,
@@ -38,72 +61,98 @@ convert-sub-k : (t : ℕ) → convert-lts.Need-sub-k (
 ) (convert-at t) convert.Post
 convert-sub-k t c = search needs
 
-convert-mul-from-u16 : (t : ℕ) → convert-lts.Need-mul-from-u16 (
-  from-u16-reads.Asked,
-  from-u16-reads.Learnt,
+convert-element-copy-out-bit : (t : ℕ) → convert-lts.Need-element-copy-out-bit (
+  bit-reads.Asked,
+  bit-reads.Learnt,
+  one-share-reads.Asked,
+  one-share-reads.Learnt,
   convert-below t,
   convert.Post,
   xor-share-reads.Asked,
   xor-share-reads.Learnt,
 ) (convert-at t) convert.Post
-convert-mul-from-u16 t c = search needs
+convert-element-copy-out-bit t c = search needs
 
-convert-element-copy-out-from-u16 : (t : ℕ) → convert-lts.Need-element-copy-out-from-u16 (
-  from-u16-reads.Asked,
-  from-u16-reads.Learnt,
+convert-bit-requires : (t : ℕ) → convert-lts.Need-bit-requires (
+  bit-reads.Asked,
+  bit-reads.Learnt,
+  one-share-reads.Asked,
+  one-share-reads.Learnt,
   convert-below t,
   convert.Post,
   xor-share-reads.Asked,
   xor-share-reads.Learnt,
 ) (convert-at t) convert.Post
-convert-element-copy-out-from-u16 t c = search needs
+convert-bit-requires t c κs = search needs
 
-convert-from-u16-requires : (t : ℕ) → convert-lts.Need-from-u16-requires (
-  from-u16-reads.Asked,
-  from-u16-reads.Learnt,
+convert-one-share-requires : (t : ℕ) → convert-lts.Need-one-share-requires (
+  bit-reads.Asked,
+  bit-reads.Learnt,
+  one-share-reads.Asked,
+  one-share-reads.Learnt,
   convert-below t,
   convert.Post,
   xor-share-reads.Asked,
   xor-share-reads.Learnt,
 ) (convert-at t) convert.Post
-convert-from-u16-requires t c κs = search needs
-
-convert-array-write-one : (t : ℕ) → convert-lts.Need-array-write-one (
-  from-u16-reads.Asked,
-  from-u16-reads.Learnt,
-  convert-below t,
-  convert.Post,
-  xor-share-reads.Asked,
-  xor-share-reads.Learnt,
-) (convert-at t) convert.Post
-convert-array-write-one t c = search needs
-
-convert-returns : (t : ℕ) → convert-lts.Need-returns (
-  from-u16-reads.Asked,
-  from-u16-reads.Learnt,
-  convert-below t,
-  convert.Post,
-  xor-share-reads.Asked,
-  xor-share-reads.Learnt,
-) (convert-at t) convert.Post
-convert-returns t c = one-done _ _ _ _ _ _ (omega arith) (c .if1 .taken) (c .before .from-u16 .ensures)
+convert-one-share-requires t c κs = search needs
 
 convert-convert-requires : (t : ℕ) → convert-lts.Need-convert-requires (
-  from-u16-reads.Asked,
-  from-u16-reads.Learnt,
+  bit-reads.Asked,
+  bit-reads.Learnt,
+  one-share-reads.Asked,
+  one-share-reads.Learnt,
   convert-below t,
   convert.Post,
   xor-share-reads.Asked,
   xor-share-reads.Learnt,
 ) (convert-at t) convert.Post
-convert-convert-requires t c κs =
-    let s = c .before .before .before .before in
+convert-convert-requires t c κs = let s = c .before .before in
     let e = pairs-step (s .args .j) (s .args .j - 1) (omega arith) in
-    (omega arith, (omega arith, omega arith, s .pre .1 .2, (λ i l. s .pre .1 .3 i (omega arith)), drawn-part _ 0 _ (omega arith) (omega arith) (s .pre .1 .4)))
+    let l = c .if1 .left in
+    (omega arith, (omega arith, omega arith, s .pre .1 .2, s .pre .1 .3, drawn-part _ 0 _ (omega arith) (omega arith) (s .pre .1 .4)))
+
+convert-mul-bit : (t : ℕ) → convert-lts.Need-mul-bit (
+  bit-reads.Asked,
+  bit-reads.Learnt,
+  one-share-reads.Asked,
+  one-share-reads.Learnt,
+  convert-below t,
+  convert.Post,
+  xor-share-reads.Asked,
+  xor-share-reads.Learnt,
+) (convert-at t) convert.Post
+convert-mul-bit t c = search needs
+
+convert-element-copy-out-bit-2 : (t : ℕ) → convert-lts.Need-element-copy-out-bit-2 (
+  bit-reads.Asked,
+  bit-reads.Learnt,
+  one-share-reads.Asked,
+  one-share-reads.Learnt,
+  convert-below t,
+  convert.Post,
+  xor-share-reads.Asked,
+  xor-share-reads.Learnt,
+) (convert-at t) convert.Post
+convert-element-copy-out-bit-2 t c = search needs
+
+convert-bit-requires-2 : (t : ℕ) → convert-lts.Need-bit-requires-2 (
+  bit-reads.Asked,
+  bit-reads.Learnt,
+  one-share-reads.Asked,
+  one-share-reads.Learnt,
+  convert-below t,
+  convert.Post,
+  xor-share-reads.Asked,
+  xor-share-reads.Learnt,
+) (convert-at t) convert.Post
+convert-bit-requires-2 t c κs = search needs
 
 convert-sub-xor-share : (t : ℕ) → convert-lts.Need-sub-xor-share (
-  from-u16-reads.Asked,
-  from-u16-reads.Learnt,
+  bit-reads.Asked,
+  bit-reads.Learnt,
+  one-share-reads.Asked,
+  one-share-reads.Learnt,
   convert-below t,
   convert.Post,
   xor-share-reads.Asked,
@@ -112,69 +161,76 @@ convert-sub-xor-share : (t : ℕ) → convert-lts.Need-sub-xor-share (
 convert-sub-xor-share t c = search needs
 
 convert-mul-xor-share : (t : ℕ) → convert-lts.Need-mul-xor-share (
-  from-u16-reads.Asked,
-  from-u16-reads.Learnt,
+  bit-reads.Asked,
+  bit-reads.Learnt,
+  one-share-reads.Asked,
+  one-share-reads.Learnt,
   convert-below t,
   convert.Post,
   xor-share-reads.Asked,
   xor-share-reads.Learnt,
 ) (convert-at t) convert.Post
-convert-mul-xor-share t c = omega (arith, products (c .before .before .before .before .before .args .j - 1) (c .before .before .before .before .before .args .j - 1 - 1) (omega arith) (omega arith))
+convert-mul-xor-share t c = let j = c .before .before .before .before .args .j in omega (arith, products (j - 1) (j - 1 - 1) (omega arith) (omega arith))
 
 convert-add-xor-share : (t : ℕ) → convert-lts.Need-add-xor-share (
-  from-u16-reads.Asked,
-  from-u16-reads.Learnt,
+  bit-reads.Asked,
+  bit-reads.Learnt,
+  one-share-reads.Asked,
+  one-share-reads.Learnt,
   convert-below t,
   convert.Post,
   xor-share-reads.Asked,
   xor-share-reads.Learnt,
 ) (convert-at t) convert.Post
-convert-add-xor-share t c =
-    let s = c .before .before .before .before .before in
+convert-add-xor-share t c = let s = c .before .before .before .before in
     let e = pairs-half (s .args .j - 1) in
     let f = pairs-step (s .args .j) (s .args .j - 1) (omega arith) in
     omega (arith, s .pre .1 .4 .room)
 
 convert-xor-share-requires : (t : ℕ) → convert-lts.Need-xor-share-requires (
-  from-u16-reads.Asked,
-  from-u16-reads.Learnt,
+  bit-reads.Asked,
+  bit-reads.Learnt,
+  one-share-reads.Asked,
+  one-share-reads.Learnt,
   convert-below t,
   convert.Post,
   xor-share-reads.Asked,
   xor-share-reads.Learnt,
 ) (convert-at t) convert.Post
-convert-xor-share-requires t c κs =
-    let s = c .before .before .before .before .before in
+convert-xor-share-requires t c κs = let s = c .before .before .before .before in
     let e = pairs-half (s .args .j - 1) in
     let f = pairs-step (s .args .j) (s .args .j - 1) (omega arith) in
-    let h = s .pre .1 .2 .large in
-    let b = s .pre .1 .3 0 (omega arith) in (
+    let h = s .pre .1 .3 .large in
+    let b = bit-lt (at (s .args .shares .now) 0) (s .args .t) in (
       omega arith,
-      rw (c .before .before .from-u16 .ensures) (s .pre .1 .3 (s .args .j - 1) (omega arith)),
-      s .pre .1 .2,
-      holds-below _ _ _ _ _ (omega arith) (omega arith) (c .convert .ensures),
+      rw (c .bit2 .ensures) (bit-lt _ _),
+      s .pre .1 .3,
+      holds-below _ _ _ _ _ (omega arith) (omega arith) (list t (c .before .before)),
       drawn-part _ (pairs (s .args .j - 1)) _ (omega arith) (omega arith) (s .pre .1 .4),
     )
 
-convert-returns-2 : (t : ℕ) → convert-lts.Need-returns-2 (
-  from-u16-reads.Asked,
-  from-u16-reads.Learnt,
+convert-returns : (t : ℕ) → convert-lts.Need-returns (
+  bit-reads.Asked,
+  bit-reads.Learnt,
+  one-share-reads.Asked,
+  one-share-reads.Learnt,
   convert-below t,
   convert.Post,
   xor-share-reads.Asked,
   xor-share-reads.Learnt,
 ) (convert-at t) convert.Post
-convert-returns-2 t c =
-    let s = c .before .before .before .before .before .before .args in
+convert-returns t c = let s = c .before .before .before .before .before .args in
     let k = s .j - 1 in
     let e : s .start + k * (k - 1) / 2 ≡ s .start + pairs k = omega (arith, pairs-half k) in
     share-added _ _ _ _ _ _ _ _ _ (omega arith) (omega arith) (ap (λ (p : ℕ). after p (at (s .words .now))) e ∙ sym (after-after (s .start) (pairs k) (at (s .words .now))))
-    (c .before .before .before .from-u16 .ensures) (c .before .convert .ensures) (c .xor-share .ensures)
+    (c .before .bit2 .ensures) (list t (c .before .before .before)) (c .xor-share .ensures)
 
 pub +convert-spec : {M : Type 1} → statement M
 +convert-spec = close μ-convert λ t. convert-lts.spec (
-  from-u16-reads.Asked,
-  from-u16-reads.Learnt,
+  bit-reads.Asked,
+  bit-reads.Learnt,
+  one-share-reads.Asked,
+  one-share-reads.Learnt,
   convert-below t,
   convert.Post,
   xor-share-reads.Asked,
@@ -183,14 +239,15 @@ pub +convert-spec : {M : Type 1} → statement M
     (convert-at t)
     convert.Post
     (convert-sub-k t)
-    (convert-mul-from-u16 t)
-    (convert-element-copy-out-from-u16 t)
-    (convert-from-u16-requires t)
-    (convert-array-write-one t)
-    (convert-returns t)
+    (convert-element-copy-out-bit t)
+    (convert-bit-requires t)
+    (convert-one-share-requires t)
     (convert-convert-requires t)
+    (convert-mul-bit t)
+    (convert-element-copy-out-bit-2 t)
+    (convert-bit-requires-2 t)
     (convert-sub-xor-share t)
     (convert-mul-xor-share t)
     (convert-add-xor-share t)
     (convert-xor-share-requires t)
-    (convert-returns-2 t)
+    (convert-returns t)

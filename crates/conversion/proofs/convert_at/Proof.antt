@@ -5,6 +5,7 @@ use native.Mathlib.Omega.{arith}
 use Rattle.buffers.specs.Overwrite.{overwrite}
 use Rattle.buffers.specs.Positions.{at, after}
 use Rattle.buffers.specs.PositionLaws.{after-after}
+use Rattle.checks.specs.Width.{bit-lt}
 use Rattle.conversion.specs.Conversion.{pairs}
 use Rattle.conversion.specs.Laws.{pairs-twice, pairs-half}
 use Rattle.conversion.specs.Arrays.{drawn-part}
@@ -17,7 +18,7 @@ convert-requires : tie.Need-convert-requires
 convert-requires c κs =
     let s = c .before .before in
     let e = pairs-twice (s .args .n) in
-    (omega arith, omega arith, s .pre .2, s .pre .3, drawn-part _ 0 _ (omega arith) (omega arith) (s .pre .4))
+    (s .pre .0, s .pre .1, s .pre .2, s .pre .3, drawn-part _ 0 _ (omega arith) (omega arith) (s .pre .4))
 
 sub-refresh : tie.Need-sub-refresh
 sub-refresh c = search needs
@@ -34,10 +35,10 @@ refresh-requires : tie.Need-refresh-requires
 refresh-requires c κs =
     let s = c .before .before .before .before in
     let e = pairs-twice (s .args .n) in
-    let h = s .pre .2 .large in
-    let b = s .pre .3 0 (omega arith) in (
+    let h = s .pre .3 .large in
+    let b = bit-lt (at (s .args .shares .now) 0) (s .args .t) in (
       omega arith,
-      s .pre .2,
+      s .pre .3,
       c .before .convert .ensures .eight,
       holds-below _ _ _ _ _ (omega arith) (omega arith) (c .before .convert .ensures),
       drawn-part _ (pairs (s .args .n)) _ (omega (arith, pairs-half (s .args .n))) (omega arith) (s .pre .4),
@@ -51,8 +52,8 @@ returns : tie.Need-returns
 returns c =
     let s = c .before .before .before .before .before .before .before in
     let a = s .args in
-    let h = s .pre .2 .large in
-    let b = s .pre .3 0 (omega arith) in
+    let h = s .pre .3 .large in
+    let b = bit-lt (at (s .args .shares .now) 0) (s .args .t) in
     let e : a .start + a .n * (a .n - 1) / 2 ≡ a .start + pairs (a .n) = omega (arith, pairs-half (a .n)) in
     c .before .before .refresh .ensures
     ∙ ap (overwrite (a .out .now) (a .to))

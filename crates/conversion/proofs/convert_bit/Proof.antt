@@ -5,15 +5,16 @@ use Prim.Native.Nat.{ℕ, _-_}
 use native.Mathlib.Omega.{arith}
 use lib.ListN.{length}
 use Rattle.checks.specs.declared.Answer.the-variants.{Done}
+use Rattle.checks.specs.Width.{bit}
 use Rattle.checks.specs.Answers.{outcome}
 use Rattle.checks.specs.Laws.{Hold, checks-hold, settles-accepted, settles-refused}
 use Rattle.buffers.specs.Overwrite.{overwrite}
 use Rattle.buffers.specs.Laws.{front-below}
 use Rattle.buffers.specs.Positions.{at, Same}
-use Rattle.conversion.specs.Conversion.{bitChecks, converted}
+use Rattle.conversion.specs.Conversion.{bitsAt, bitChecks, converted}
 use Rattle.conversion.specs.Accepted.{SharedBit, first-lt, call-sharing, call-room, call-drawn}
 use Rattle.conversion.specs.SecrecyProof.{bit-secrecy}
-use Rattle.conversion.proofs.Steps.{products, shares-of}
+use Rattle.conversion.proofs.Steps.{products, lowest-bits, shares-of}
 use borrow.Author.Needs.{needs}
 use Rattle.conversion.proofs.convert_bit.Statement.{statement}
 use Rattle.conversion.proofs.convert_bit.Tie as tie
@@ -24,9 +25,11 @@ holds c = checks-hold _ _ (c .before .before .check-bit .ensures) (c .enum-told 
 shared : (c : tie.After-enum-told) → SharedBit (c .before .before .before .before .before .before .args .n) (c .before .before .before .before .before .before .args .q) (c .before .before .before .before .before .before .args .bits .now)
 shared c = call-sharing _ _ _ _ _ (holds c)
 
--- the array holds the shares of the bit
-copied : (c : tie.After-copy) → Same (c .before .before .before .before .before .before .before .before .args .n) (at (c .copy .last .0)) (at (c .before .before .before .before .before .before .before .before .args .bits .now))
-copied c i l = ap (λ (k : List ℕ). at k i) (c .copy .ensures) ∙ front-below _ _ i (omega (arith, shared (c .before .before) .count))
+-- the lowest bits of the array are the shares of the bit
+copied : (c : tie.After-copy) → Same (c .before .before .before .before .before .before .before .before .args .n) (bitsAt (at (c .copy .last .0)) 0) (at (c .before .before .before .before .before .before .before .before .args .bits .now))
+copied c i l =
+    let s = shared (c .before .before) in
+    ap (λ (k : List ℕ). bit (at k i) 0) (c .copy .ensures) ∙ ap (λ (z : ℕ). bit z 0) (front-below _ _ i (omega (arith, s .count))) ∙ lowest-bits _ _ (s .below) i l
 
 check-bit-requires : tie.Need-check-bit-requires
 check-bit-requires c κs = search needs
@@ -51,10 +54,10 @@ convert-at-requires : tie.Need-convert-at-requires
 convert-at-requires c κs =
     let h = holds (c .before .before .before .before .before) in
     let s = shared (c .before .before .before .before .before) in (
-      omega (arith, s .two),
+      s .two,
       s .eight,
+      omega arith,
       record { large = s .modulus; small = omega arith },
-      (λ i l. rw (copied (c .before .before .before) i l) (s .below i l)),
       call-drawn _ _ _ _ _ h,
       omega (arith, call-room _ _ _ _ _ h),
     )

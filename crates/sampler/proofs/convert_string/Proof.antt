@@ -2,73 +2,67 @@
 use mathlib.Core.Path.{_≡_, refl, _∙_}
 use Prim.Native.Nat.{_+_, _-_, _*_, _≤_}
 use native.Mathlib.Omega.{arith}
-use lib.ListN.{length, replicate}
+use lib.ListN.{length}
 use borrow.Author.Needs.{needs}
 use Rattle.buffers.specs.Overwrite.{overwrite}
-use Rattle.buffers.specs.Positions.{at, table, rows, after}
+use Rattle.buffers.specs.Positions.{at, rows, after}
 use Rattle.buffers.specs.Rows.{rows-none, rows-next, rows-all, rows-length}
 use Rattle.conversion.specs.Conversion.{bitWords}
 use Rattle.conversion.specs.Arrays.{drawn-part}
-use Rattle.sampler.specs.Sampler.{bitsAt, row}
-use Rattle.sampler.proofs.Steps.{row-fits, bits-below, row-done}
+use Rattle.sampler.specs.Sampler.{row}
+use Rattle.sampler.proofs.Steps.{row-fits, row-done}
 use Rattle.sampler.proofs.convert_string.Statement.{statement}
 use Rattle.sampler.proofs.convert_string.Tie as tie
 
 abbrev Inv-loop : tie.InvT-loop
-Inv-loop shares n k q words start work₀ to t₀ work t = (t ≤ k) × (work ≡ overwrite work₀ to (rows t n (row q n (at shares) (after start (at words)))))
+Inv-loop shares n k q words start work₀ to copy t₀ work t = (t ≤ k) × (work ≡ overwrite work₀ to (rows t n (row q n (at shares) (after start (at words)))))
 
 abbrev μ-loop : tie.MeasureT-loop
-μ-loop shares n k q words start work₀ to t₀ work t = k - t
+μ-loop shares n k q words start work₀ to copy t₀ work t = k - t
 
 -- the next row has its words and its room
-next-words : (c : tie.In-loop Inv-loop μ-loop) → c .before .before .before .before .before .args .start + (c .before .loop .t * bitWords (c .before .before .before .before .before .args .n) + bitWords (c .before .before .before .before .before .args .n)) ≤ length (c .before .before .before .before .before .args .words .now)
-next-words c = omega (arith, row-fits (bitWords (c .before .before .before .before .before .args .n)) (c .loop-test .taken), c .before .before .before .before .before .pre .5 .room)
+next-words : (c : tie.In-loop Inv-loop μ-loop) → let s = c .before .before .before .before .before .before .before .before .args in s .start + (c .before .loop .t * bitWords (s .n) + bitWords (s .n)) ≤ length (s .words .now)
+next-words c = let s = c .before .before .before .before .before .before .before .before in omega (arith, row-fits (bitWords (s .args .n)) (c .loop-test .taken), s .pre .5 .room)
 
-next-row : (c : tie.In-loop Inv-loop μ-loop) → c .before .before .before .before .before .args .to + (c .before .loop .t * c .before .before .before .before .before .args .n + c .before .before .before .before .before .args .n) ≤ length (c .before .before .before .before .before .args .work .now)
-next-row c = omega (arith, row-fits (c .before .before .before .before .before .args .n) (c .loop-test .taken), c .before .before .before .before .before .pre .6)
+next-row : (c : tie.In-loop Inv-loop μ-loop) → let s = c .before .before .before .before .before .before .before .before .args in s .to + (c .before .loop .t * s .n + s .n) ≤ length (s .work .now)
+next-row c = let s = c .before .before .before .before .before .before .before .before in omega (arith, row-fits (s .args .n) (c .loop-test .taken), s .pre .6)
 
--- the bits stand in front of the array
-held : (c : tie.After-extract-bits Inv-loop μ-loop) → c .extract-bits .last .1 .1 .0 ≡ overwrite (replicate 8 0) 0 (table (c .before .before .before .before .before .before .before .args .n) (bitsAt (at (c .before .before .before .before .before .before .before .args .shares .now)) (c .before .before .before .loop .t)))
-held c = rw (c .before .before .before .before .before .before .before .pre .4) at (c .extract-bits .ensures)
+slice-aggregate-copy : tie.Need-slice-aggregate-copy Inv-loop μ-loop
+slice-aggregate-copy c = search needs
+
+copy-requires : tie.Need-copy-requires Inv-loop μ-loop
+copy-requires c κs = search needs
 
 loop-holds : tie.Need-loop-holds Inv-loop μ-loop
 loop-holds c = (omega arith, rows-none _ _ _ _)
-
-slice-aggregate-extract-bits : tie.Need-slice-aggregate-extract-bits Inv-loop μ-loop
-slice-aggregate-extract-bits c = search needs
-
-extract-bits-requires : tie.Need-extract-bits-requires Inv-loop μ-loop
-extract-bits-requires c κs = search needs
 
 sub-convert-at : tie.Need-sub-convert-at Inv-loop μ-loop
 sub-convert-at c = search needs
 
 mul-convert-at : tie.Need-mul-convert-at Inv-loop μ-loop
-mul-convert-at c = omega (arith, next-words (c .before .before .before .before))
+mul-convert-at c = omega (arith, next-words (c .before))
 
 mul-convert-at-2 : tie.Need-mul-convert-at-2 Inv-loop μ-loop
-mul-convert-at-2 c = omega (arith, next-words (c .before .before .before .before))
+mul-convert-at-2 c = omega (arith, next-words (c .before))
 
 add-convert-at : tie.Need-add-convert-at Inv-loop μ-loop
-add-convert-at c = omega (arith, next-words (c .before .before .before .before))
+add-convert-at c = omega (arith, next-words (c .before))
 
 mul-convert-at-3 : tie.Need-mul-convert-at-3 Inv-loop μ-loop
-mul-convert-at-3 c = omega (arith, next-row (c .before .before .before .before .before))
+mul-convert-at-3 c = omega (arith, next-row (c .before .before))
 
 add-convert-at-2 : tie.Need-add-convert-at-2 Inv-loop μ-loop
-add-convert-at-2 c = omega (arith, next-row (c .before .before .before .before .before))
+add-convert-at-2 c = omega (arith, next-row (c .before .before))
 
 convert-at-requires : tie.Need-convert-at-requires Inv-loop μ-loop
-convert-at-requires c κs =
-    let s = c .before .before .before .before .before .before .before .before .before .before in
-    let l = c .before .before .before .before .before .before .loop in
-    let q = s .pre .3 in
-    let d = next-row (c .before .before .before .before .before) in (
+convert-at-requires c κs = let s = c .before .before .before .before .before .before .before .before .before .before in
+    let l = c .before .before .before .loop in
+    let d = next-row (c .before .before) in (
+      s .pre .0,
+      s .pre .1,
       omega arith,
-      omega arith,
-      q,
-      bits-below _ _ (l .t) (s .args .shares .now) _ (q .large) (held (c .before .before .before)),
-      drawn-part _ (l .t * bitWords (s .args .n)) _ refl (row-fits (bitWords (s .args .n)) (c .before .before .before .before .before .loop-test .taken)) (s .pre .5),
+      s .pre .3,
+      drawn-part _ (l .t * bitWords (s .args .n)) _ refl (row-fits (bitWords (s .args .n)) (c .before .before .loop-test .taken)) (s .pre .5),
       omega (arith, rows-length _ _ _ _ _ _ (l .inv .1) (omega arith)),
     )
 
@@ -79,16 +73,14 @@ loop-less : tie.Need-loop-less Inv-loop μ-loop
 loop-less c = search needs
 
 loop-again : tie.Need-loop-again Inv-loop μ-loop
-loop-again c =
-    let s = c .before .before .before .before .before .before .before .before .before .before .before .before .before in
-    let l = c .before .before .before .before .before .before .before .before .before .loop in
-    let e = row-done _ _ (l .t) (s .args .shares .now) _ (s .pre .3 .large) (held (c .before .before .before .before .before .before)) (s .args .start) _ (s .args .words .now) (omega arith) refl in
+loop-again c = let s = c .before .before .before .before .before .before .before .before .before .before .before .before .before in
+    let l = c .before .before .before .before .before .before .loop in
+    let e = row-done _ _ (l .t) (s .args .shares .now) _ (s .pre .3 .large) (s .pre .4) (c .before .before .before .before .before .before .before .before .copy2 .ensures) (s .args .start) _ (s .args .words .now) refl in
     (omega arith, c .before .before .convert-at .ensures ∙ rows-next _ _ _ _ _ _ _ (l .inv .1) e)
 
 same-length : tie.Need-same-length Inv-loop μ-loop
-same-length c =
-    let e : c .before .loop .t ≡ c .before .before .before .before .before .args .k = omega arith in
-    rows-length _ _ _ _ _ _ (c .before .loop .inv .1) (rw e (c .before .before .before .before .before .pre .6))
+same-length c = let e : c .before .loop .t ≡ c .before .before .before .before .before .before .before .before .args .k = omega arith in
+    rows-length _ _ _ _ _ _ (c .before .loop .inv .1) (rw e (c .before .before .before .before .before .before .before .before .pre .6))
 
 returns : tie.Need-returns Inv-loop μ-loop
 returns c = rows-all _ _ _ _ _ _ _ (omega arith) (c .before .loop .inv .1)
@@ -99,9 +91,9 @@ convert-string-spec =
     (tie.spec
     Inv-loop
     μ-loop
+    slice-aggregate-copy
+    copy-requires
     loop-holds
-    slice-aggregate-extract-bits
-    extract-bits-requires
     sub-convert-at
     mul-convert-at
     mul-convert-at-2
