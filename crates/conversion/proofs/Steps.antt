@@ -1,9 +1,13 @@
 -- Facts of the code's steps.
 use mathlib.Core.Path.{_≡_, refl, sym, ap, _∙_}
+use mathlib.Core.Bool.{cond}
 use mathlib.Core.List.{List}
 use Prim.Native.Nat.{ℕ, zero, suc, _+_, _-_, _*_, _≤_, _<_}
 use native.Mathlib.Nat as N
 use native.Mathlib.Omega.{arith}
+use native.Mathlib.Decide.{decLe}
+use borrow.Author.Tests.{le-leb, lt-leb}
+use lib.Dec.{leb}
 use lib.ListN.{length, set, replicate, length-set}
 use lib.Seq.{getD-set-other}
 use Rattle.residue.specs.Residue.{sub, neg, add, sum}
@@ -133,6 +137,20 @@ unfolding bitShares
 shares-of n q b bits words h l s = table-same n _ _ (convertBit-local q n b (at bits) (after 0 (at words)) (at words) h l s (λ j m. ap (at words) (N.zero-add j)))
 
 -- ---- the loops of step 3
+
+-- of eight turns, those below n count
+abbrev pub upto : ℕ → ℕ → ℕ
+upto n i = cond (leb i n) i n
+
+pub upto-within : (n i : ℕ) → i ≤ n → upto n i ≡ i
+upto-within n i h = rw (le-leb i n h)
+
+pub upto-past : (n i : ℕ) → n ≤ i → upto n i ≡ n
+upto-past n i h = go (decLe i n)
+  where
+    go : Dec (i ≤ n) → upto n i ≡ n
+    go (yes l) = upto-within n i l ∙ omega arith
+    go (no l) = rw (lt-leb i n (omega arith))
 
 module _ (q : ℕ) (w : ℕ → ℕ) where
   -- Share i has taken the words from o on with the shares before j, which have lost theirs.

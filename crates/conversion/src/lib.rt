@@ -102,15 +102,19 @@ fn refresh(
     let modulus = residue::widen(q);
     let mut a = shares;
     let mut p = start;
-    for i in 0..n {
-        let mut own = residue::widen(a[i]);
-        for m in i + 1..n {
-            let r = residue::widen(words[p]);
-            own = residue::add(own, r, modulus);
-            a[m] = residue::narrow(residue::sub(residue::widen(a[m]), r, modulus), q);
-            p += 1;
+    for i in 0..8 {
+        if i < n {
+            let mut own = residue::widen(a[i]);
+            for m in i + 1..8 {
+                if m < n {
+                    let r = residue::widen(words[p]);
+                    own = residue::add(own, r, modulus);
+                    a[m] = residue::narrow(residue::sub(residue::widen(a[m]), r, modulus), q);
+                    p += 1;
+                }
+            }
+            out[to + i] = residue::narrow(own, q);
         }
-        out[to + i] = residue::narrow(own, q);
     }
 }
 
