@@ -1,5 +1,4 @@
 -- What a C caller is given: the structs of include/tinplateau.h for each verdict of document 01. Code 0 says that the call is accepted.
-use mathlib.Core.Path.{_≡_, ap, _∙_}
 use Prim.Native.Nat.{ℕ}
 use lib.IntN.{ℤ, pos}
 use Rattle.checks.specs.Checks.{Verdict, accepted, refused, Outcome}

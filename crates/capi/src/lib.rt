@@ -9,7 +9,7 @@ use masking::StringAnswer;
 use residue::Word;
 ghost use mathlib.Core.Path.{_≡_};
 ghost use Rattle.checks.specs.Answers.{answerReading};
-ghost use Rattle.masking.specs.Answers.{stringReading, residueReading, signedReading, setReading};
+ghost use Rattle.masking.specs.Answers.{signedReading};
 ghost use Rattle.masking.specs.Sharing.{masked, openedString, openedResidue};
 ghost use Rattle.masking.specs.Signed.{centred, weightDifference};
 ghost use Rattle.masking.specs.Sets.{parameterSet};

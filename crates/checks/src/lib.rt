@@ -5,7 +5,7 @@ ghost use Prim.Native.Nat.{_*_, _^_, _≤_};
 ghost use lib.Dec.{ltb};
 ghost use lib.ListN.{length, take};
 ghost use Rattle.checks.specs.Search.{firstNotBelow};
-ghost use Rattle.checks.specs.Checks.{refused, checked, within, parameterChecks, wordChecks};
+ghost use Rattle.checks.specs.Checks.{refused, checked, within, isNone, parameterChecks, wordChecks};
 ghost use Rattle.checks.specs.Answers.{foundReading, checkedReading};
 
 // Document 01's number for a refused call, and the position (its 'place') of what is unfit.
@@ -169,13 +169,29 @@ pub fn first_not_below(words: &[Word], bits: usize, per: usize, q: Word) -> Foun
     found
 }
 
-// Checks 8 and 9 of a call that takes `per` words for each of its bits.
+// The first `count` words are all below q. This pass is never left early, so that the compiler can compare several words at once.
+fn all_below(words: &[Word], count: usize, q: Word) -> bool
+    requires { ⌜ count ≤ length (now words) ⌝ }
+    ensures { λ r. ⌜ r ≡ isNone (firstNotBelow q (take count (now (words .entry)))) ⌝ }
+{
+    let mut below = true;
+    for i in 0..count {
+        below = below & (words[i] < q);
+    }
+    below
+}
+
+// Checks 8 and 9 of a call that takes `per` words for each of its bits. A word that is not below q is searched for only where one pass says that there is one.
 pub fn check_words(words: &[Word], bits: usize, per: usize, q: Word) -> Checked
     requires { ⌜ bits * per ≤ 2 ^ 32 ⌝ }
     ensures { λ r. ⌜ checkedReading r ≡ checked (wordChecks (bits * per) q (now (words .entry))) ⌝ }
 {
-    if words.len() < bits * per {
+    let count = bits * per;
+    if words.len() < count {
         return refuse(WORD_COUNT, 0);
+    }
+    if all_below(words, count, q) {
+        return Checked::Passed;
     }
     if let Found::At(i) = first_not_below(words, bits, per, q) {
         return refuse(WORD_RANGE, i);

@@ -1,22 +1,19 @@
 -- Facts of the code's steps.
 use mathlib.Core.Path.{_≡_, refl, sym, ap, _∙_}
-use mathlib.Core.Bool.{cond}
 use mathlib.Core.List.{List}
 use Prim.Native.Nat.{ℕ, zero, suc, _+_, _-_, _*_, _≤_, _<_}
 use native.Mathlib.Nat as N
 use native.Mathlib.Omega.{arith}
-use native.Mathlib.Decide.{decLe}
-use borrow.Author.Tests.{le-leb, lt-leb}
-use lib.Dec.{leb}
 use lib.ListN.{length, set, replicate, length-set}
 use lib.Seq.{getD-set-other}
 use Rattle.residue.specs.Residue.{sub, neg, add, sum}
 use Rattle.residue.specs.Laws.{reduce-small, reduce-lt, zero-add, add-zero, add-comm, add-assoc, reduce-neg, add-lt}
 use Rattle.residue.specs.Sum.{running-none, running-next, running-all, sum-last, sum-lt}
-use Rattle.buffers.specs.Positions.{at, table, after, Same, Below}
+use Rattle.buffers.specs.Positions.{at, table, rows, after, Same, Below}
 use Rattle.buffers.specs.PositionLaws.{table-same, after-after, set-agrees}
-use Rattle.checks.specs.Width.{bit-lowest}
-use Rattle.conversion.specs.Conversion.{bitsAt, pairs, extend, lessTwice, xorBit, xorShare, convert, refresh, convertBit, bitShares}
+use Rattle.buffers.specs.Rows.{rows-last}
+use Rattle.checks.specs.Width.{bit, bit-lt, bit-lowest}
+use Rattle.conversion.specs.Conversion.{bitsAt, pairs, extend, lessTwice, xorBit, xorShare, convert, refresh, convertBit, row, bitWords, bitShares}
 use Rattle.conversion.specs.ZeroSharing.{zeroSharing, refresh-adds, refresh-cong}
 use Rattle.conversion.specs.Laws.{lessTwice-one, extend-below, extend-from, xorShare-cong, convert-reduced, convertBit-local}
 use Rattle.conversion.specs.Arrays.{Holds}
@@ -127,30 +124,7 @@ module _ (q : ℕ) (b w : ℕ → ℕ) where
   unfolding convertBit
   bit-done n a r h e A = rw e (table-same n _ _ (refresh-cong q n (after (pairs n) w) (at a) (convert q n b w) (λ t l. convert-reduced q n b w h t) (A .same)))
 
--- the shares of a bit are their own lowest bits
-pub lowest-bits : (n : ℕ) (b : ℕ → ℕ) → Below 2 n b → Same n (bitsAt b 0) b
-lowest-bits n b h i l = let s = h i l in bit-lowest (b i) ∙ omega arith
-
--- the shares, from a copy of the bits
-pub shares-of : (n q : ℕ) (b : ℕ → ℕ) (bits words : List ℕ) → b 0 < q → at bits 0 < q → Same n b (at bits) → table n (convertBit q n b (after 0 (at words))) ≡ bitShares n q bits words
-unfolding bitShares
-shares-of n q b bits words h l s = table-same n _ _ (convertBit-local q n b (at bits) (after 0 (at words)) (at words) h l s (λ j m. ap (at words) (N.zero-add j)))
-
 -- ---- the loops of step 3
-
--- of eight turns, those below n count
-abbrev pub upto : ℕ → ℕ → ℕ
-upto n i = cond (leb i n) i n
-
-pub upto-within : (n i : ℕ) → i ≤ n → upto n i ≡ i
-upto-within n i h = rw (le-leb i n h)
-
-pub upto-past : (n i : ℕ) → n ≤ i → upto n i ≡ n
-upto-past n i h = go (decLe i n)
-  where
-    go : Dec (i ≤ n) → upto n i ≡ n
-    go (yes l) = upto-within n i l ∙ omega arith
-    go (no l) = rw (lt-leb i n (omega arith))
 
 module _ (q : ℕ) (w : ℕ → ℕ) where
   -- Share i has taken the words from o on with the shares before j, which have lost theirs.
@@ -243,3 +217,25 @@ module _ (q : ℕ) (w : ℕ → ℕ) where
                 let e : i + 1 + t ≡ i + suc t = omega arith in
                 let k : p ≡ o + (n - (i + 1)) = omega (arith, P .position) in
                 rw (loss t m, e, k) (L .wanted (suc t) (omega arith) ∙ rw (whole, after-after o (n - (i + 1)) w) (regroup (at b (i + suc t)) _ (neg q (w (o + t)))))
+
+-- ---- the row of a bit
+
+-- row t of k lies before the end
+pub row-fits : {t k : ℕ} (m : ℕ) → t < k → t * m + m ≤ k * m
+row-fits {t} {k} m h = N.le-trans (N.le-of-eq (sym (N.suc-mul t m))) (N.mul-le-mul-right m h)
+
+-- made from an array with the shares in front
+pub row-done : (q n t : ℕ) (x array : List ℕ) → 2 < q → Same n (at array) (at x) → (start p : ℕ) (words : List ℕ) → p ≡ start + t * bitWords n
+    → table n (convertBit q n (bitsAt (at array) t) (after p (at words))) ≡ table n (row q n (at x) (after start (at words)) t)
+unfolding row
+row-done q n t x array large h start p words d =
+    table-same n _ _ (convertBit-local q n (bitsAt (at array) t) (bitsAt (at x) t) _ _ (first array) (first x) (λ i l. ap (λ (z : ℕ). bit z t) (h i l)) (λ j l. ap (at words) (omega arith)))
+  where
+    first : (l : List ℕ) → bitsAt (at l) t 0 < q
+    first l = omega (arith, bit-lt (at l 0) t)
+
+-- The one row of a bit alone: its shares are their own lowest bits.
+pub one-row : (n q : ℕ) (bits words : List ℕ) → 2 < q → 1 ≤ n → Below 2 n (at bits) → rows 1 n (row q n (at bits) (after 0 (at words))) ≡ bitShares n q bits words
+unfolding bitShares row rows
+one-row n q bits words large h below =
+    rows-last 0 n (row q n (at bits) (after 0 (at words))) ∙ table-same n _ _ (convertBit-local q n (bitsAt (at bits) 0) (at bits) _ _ (omega (arith, bit-lt (at bits 0) 0)) (omega (arith, below 0 h)) (λ i l. let s = below i l in bit-lowest (at bits i) ∙ omega arith) (λ j l. let e : 0 + (0 * bitWords n + j) ≡ j = omega arith in ap (at words) e))

@@ -15,6 +15,10 @@ use Rattle.checks.specs.Checks.{Check, Outcome, verdict, settled, shareCount, m
 abbrev pub bitsAt : (ℕ → ℕ) → ℕ → ℕ → ℕ
 bitsAt x t i = bit (x i) t
 
+-- how many words a bit takes
+abbrev pub bitWords : ℕ → ℕ
+bitWords n = n * (n - 1)
+
 -- how many pairs n shares have. Steps 1 and 2 take that many words, and step 3 again.
 unfoldable pub pairs : ℕ → ℕ
 pairs zero = 0
@@ -72,11 +76,11 @@ module _ (q : ℕ) where
   unfoldable pub convertBit : ℕ → (ℕ → ℕ) → (ℕ → ℕ) → ℕ → ℕ
   convertBit n b w = refresh n (after (pairs n) w) (convert n b w)
 
--- ---- the call
+  -- The n shares of bit t of a string, whose bits take the words w from bit 0 on, each the next n(n − 1).
+  unfoldable pub row : ℕ → (ℕ → ℕ) → (ℕ → ℕ) → ℕ → ℕ → ℕ
+  row n x w t = convertBit n (bitsAt x t) (after (t * bitWords n) w)
 
--- how many words a bit takes
-abbrev pub bitWords : ℕ → ℕ
-bitWords n = n * (n - 1)
+-- ---- the call
 
 unfoldable pub bitShares : ℕ → ℕ → List ℕ → List ℕ → List ℕ
 bitShares n q bits words = table n (convertBit q n (at bits) (at words))

@@ -9,11 +9,11 @@ ghost use mathlib.Core.Path.{_≡_};
 ghost use Prim.Native.Nat.{_+_, _*_, _^_, _≤_, _<_};
 ghost use lib.ListN.{length};
 ghost use Rattle.buffers.specs.Overwrite.{overwrite};
-ghost use Rattle.buffers.specs.Positions.{at, table, after, Below};
+ghost use Rattle.buffers.specs.Positions.{at, table, rows, after, Same, Below};
 ghost use Rattle.checks.specs.Width.{bit};
 ghost use Rattle.checks.specs.Checks.{checked};
 ghost use Rattle.checks.specs.Answers.{checkedReading, outcome};
-ghost use Rattle.conversion.specs.Conversion.{pairs, lessTwice, xorShare, bitsAt, convert, refresh, convertBit, bitWords, bitChecks, converted};
+ghost use Rattle.conversion.specs.Conversion.{pairs, lessTwice, xorShare, bitsAt, convert, refresh, convertBit, row, bitWords, bitChecks, converted};
 ghost use Rattle.conversion.specs.Secrecy.{BitSecrecy};
 ghost use Rattle.conversion.specs.Arrays.{Holds, Drawn, Modulus};
 
@@ -102,24 +102,20 @@ fn refresh(
     let modulus = residue::widen(q);
     let mut a = shares;
     let mut p = start;
-    for i in 0..8 {
-        if i < n {
-            let mut own = residue::widen(a[i]);
-            for m in i + 1..8 {
-                if m < n {
-                    let r = residue::widen(words[p]);
-                    own = residue::add(own, r, modulus);
-                    a[m] = residue::narrow(residue::sub(residue::widen(a[m]), r, modulus), q);
-                    p += 1;
-                }
-            }
-            out[to + i] = residue::narrow(own, q);
+    for i in 0..n {
+        let mut own = residue::widen(a[i]);
+        for m in i + 1..n {
+            let r = residue::widen(words[p]);
+            own = residue::add(own, r, modulus);
+            a[m] = residue::narrow(residue::sub(residue::widen(a[m]), r, modulus), q);
+            p += 1;
         }
+        out[to + i] = residue::narrow(own, q);
     }
 }
 
 // The n shares of bit t, from the n(n - 1) words at `start`. They come to stand at `to` in `out` and behind.
-pub fn convert_at(
+fn convert_at(
     shares: &[u16; 8],
     t: usize,
     n: usize,
@@ -134,6 +130,48 @@ pub fn convert_at(
 {
     let a = convert(shares, t, n, q, words, start);
     refresh(a, n, q, words, start + n * (n - 1) / 2, out, to);
+}
+
+// The n shares, in front of an array. Eight turns, so that they are single stores and no call.
+fn gather(shares: &[u16], n: usize, array: &mut [u16])
+    requires { ⌜ (n ≤ 8) × (length (now shares) ≡ n) × (length (now array) ≡ 8) ⌝ }
+    ensures { λ _. ⌜ (length (now (array .exit)) ≡ 8) × Same n (at (now (array .exit))) (at (now (shares .entry))) ⌝ }
+{
+    for i in 0..8 {
+        if i < n {
+            array[i] = shares[i];
+        }
+    }
+}
+
+// The rows of a string's k bits, n shares each, at `to` in `out` and behind. Each bit takes the next n(n - 1) words from `start` on.
+pub fn convert_string(
+    shares: &[u16],
+    n: usize,
+    k: usize,
+    q: Word,
+    words: &[Word],
+    start: usize,
+    out: &mut [Word],
+    to: usize,
+)
+    requires { ⌜ (2 ≤ n) × (n ≤ 8) × (k ≤ 16) × Modulus q × (length (now shares) ≡ n) × Drawn q start (k * bitWords n) (now words) × (to + k * n ≤ length (now out)) ⌝ }
+    ensures { λ _. ⌜ now (out .exit) ≡ overwrite (now (out .entry)) to (rows k n (row q n (at (now (shares .entry))) (after start (at (now (words .entry)))))) ⌝ }
+{
+    let mut array = [0u16; 8];
+    gather(shares, n, &mut array);
+    for t in 0..k {
+        convert_at(
+            &array,
+            t,
+            n,
+            q,
+            words,
+            start + t * (n * (n - 1)),
+            out,
+            to + t * n,
+        );
+    }
 }
 
 fn check_bit(n: usize, q: Word, bits: &[u16], words: &[Word], room: usize) -> Checked
@@ -170,8 +208,6 @@ pub fn convert_bit(n: usize, q: Word, bits: &[u16], words: &[Word], out: &mut [W
     if let Checked::Failed(r) = check_bit(n, q, bits, words, out.len()) {
         return Answer::Refused(r);
     }
-    let mut shares = [0u16; 8];
-    buffers::copy(&mut shares, 0, bits);
-    convert_at(&shares, 0, n, q, words, 0, out, 0);
+    convert_string(bits, n, 1, q, words, 0, out, 0);
     Answer::Done(n * (n - 1))
 }

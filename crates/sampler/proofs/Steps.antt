@@ -1,11 +1,10 @@
 -- Facts of the code's steps.
 use mathlib.Core.Path.{_≡_, refl, sym, ap, _∙_}
 use mathlib.Core.List.{List, _++_}
-use Prim.Native.Nat.{ℕ, _+_, _-_, _*_, _/_, _^_, _≤_, _<_}
+use Prim.Native.Nat.{ℕ, _+_, _-_, _*_, _≤_, _<_}
 use native.Mathlib.Nat as N
 use native.Mathlib.Omega.{arith}
 use lib.Arith.{digits-lt}
-use lib.Bits.{bitAnd, and-mask}
 use lib.ListN.{length, replicate, length-append, length-replicate, List·getD-append}
 use lib.Seq.{getD-append-add}
 use Rattle.residue.specs.Residue.{EachBelow}
@@ -13,31 +12,13 @@ use Rattle.residue.specs.Laws.{sub-cong}
 use Rattle.residue.specs.Sum.{sum-cong, each-below-append}
 use Rattle.buffers.specs.Overwrite.{overwrite}
 use Rattle.buffers.specs.Laws.{length-overwrite, overwrite-append, overwrite-again, front-below}
-use Rattle.buffers.specs.Positions.{at, table, rows, after, Same, Below}
-use Rattle.buffers.specs.PositionLaws.{after-zero, length-table, table-at, table-same}
+use Rattle.buffers.specs.Positions.{at, table, rows, after, Below}
+use Rattle.buffers.specs.PositionLaws.{after-zero, table-same}
 use Rattle.buffers.specs.Rows.{length-rows, rows-at, rows-below}
-use Rattle.checks.specs.Width.{bit, bit-lt}
-use Rattle.conversion.specs.Conversion.{bitsAt, convertBit, bitWords}
-use Rattle.conversion.specs.Laws.{convertBit-local}
+use Rattle.conversion.specs.Conversion.{row, bitWords}
 use Rattle.conversion.specs.Arrays.{Drawn}
-use Rattle.sampler.specs.Sampler.{row, stringShare, sampleShare, sampleShares, workLength}
+use Rattle.sampler.specs.Sampler.{stringShare, sampleShare, sampleShares, workLength}
 use Rattle.sampler.specs.Columns.{columnShare}
-
--- ---- the row of a bit
-
--- row t of k lies before the end
-pub row-fits : {t k : ℕ} (m : ℕ) → t < k → t * m + m ≤ k * m
-row-fits {t} {k} m h = N.le-trans (N.le-of-eq (sym (N.suc-mul t m))) (N.mul-le-mul-right m h)
-
--- made from a copy of the shares
-pub row-done : (q n t : ℕ) (x copy : List ℕ) → 2 < q → length x ≡ n → copy ≡ overwrite (replicate 8 0) 0 x → (start p : ℕ) (words : List ℕ) → p ≡ start + t * bitWords n
-    → table n (convertBit q n (bitsAt (at copy) t) (after p (at words))) ≡ table n (row q n (at x) (after start (at words)) t)
-unfolding row
-row-done q n t x copy large h e start p words d =
-    table-same n _ _ (convertBit-local q n (bitsAt (at copy) t) (bitsAt (at x) t) _ _ (first copy) (first x) (λ i l. ap (λ (z : ℕ). bit z t) (ap (λ (a : List ℕ). at a i) e ∙ front-below (replicate 8 0) x i (omega arith))) (λ j l. ap (at words) (omega arith)))
-  where
-    first : (l : List ℕ) → bitsAt (at l) t 0 < q
-    first l = omega (arith, bit-lt (at l 0) t)
 
 -- ---- the work area with the rows of both strings
 

@@ -9,44 +9,13 @@ ghost use mathlib.Core.Path.{_≡_};
 ghost use Prim.Native.Nat.{_+_, _*_, _≤_, _<_};
 ghost use lib.ListN.{length, replicate};
 ghost use Rattle.buffers.specs.Overwrite.{overwrite};
-ghost use Rattle.buffers.specs.Positions.{at, table, rows, after};
+ghost use Rattle.buffers.specs.Positions.{at, table};
 ghost use Rattle.checks.specs.Checks.{checked};
 ghost use Rattle.checks.specs.Answers.{checkedReading, outcome};
-ghost use Rattle.conversion.specs.Conversion.{bitWords};
 ghost use Rattle.conversion.specs.Arrays.{Drawn, Modulus};
-ghost use Rattle.sampler.specs.Sampler.{row, sampleWords, sampleShares, workLength, pairChecks, sampleChecks, both, sampled};
+ghost use Rattle.sampler.specs.Sampler.{sampleWords, sampleShares, workLength, pairChecks, sampleChecks, both, sampled};
 ghost use Rattle.sampler.specs.Columns.{columnSum, columnShare};
 ghost use Rattle.sampler.specs.Secrecy.{Secrecy};
-
-// The rows of a string's k bits, from position `to` of the work area on. Each bit takes the next n(n - 1) words from `start` on.
-fn convert_string(
-    shares: &[u16],
-    n: usize,
-    k: usize,
-    q: Word,
-    words: &[Word],
-    start: usize,
-    work: &mut [Word],
-    to: usize,
-)
-    requires { ⌜ (2 ≤ n) × (n ≤ 8) × (k ≤ 16) × Modulus q × (length (now shares) ≡ n) × Drawn q start (k * bitWords n) (now words) × (to + k * n ≤ length (now work)) ⌝ }
-    ensures { λ _. ⌜ now (work .exit) ≡ overwrite (now (work .entry)) to (rows k n (row q n (at (now (shares .entry))) (after start (at (now (words .entry)))))) ⌝ }
-{
-    let mut copy = [0u16; 8];
-    buffers::copy(&mut copy, 0, shares);
-    for t in 0..k {
-        conversion::convert_at(
-            &copy,
-            t,
-            n,
-            q,
-            words,
-            start + t * (n * (n - 1)),
-            work,
-            to + t * n,
-        );
-    }
-}
 
 // The sum modulo q of column i over k rows, from position `start` on.
 fn sum_column(work: &[Word], start: usize, n: usize, k: usize, q: Word, i: usize) -> Wide
@@ -89,8 +58,8 @@ fn write_sample(
     ensures { λ _. ⌜ (now (out .exit) ≡ overwrite (now (out .entry)) 0 (sampleShares n k q (now (x .entry)) (now (y .entry)) (now (words .entry)))) × (now (work .exit) ≡ overwrite (now (work .entry)) 0 (replicate (workLength n k) 0)) ⌝ }
 {
     let half = k * (n * (n - 1));
-    convert_string(x, n, k, q, words, 0, work, 0);
-    convert_string(y, n, k, q, words, half, work, k * n);
+    conversion::convert_string(x, n, k, q, words, 0, work, 0);
+    conversion::convert_string(y, n, k, q, words, half, work, k * n);
     write_shares(work, n, k, q, out);
     buffers::zero(work, 2 * k * n);
 }

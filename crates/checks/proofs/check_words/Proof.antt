@@ -15,14 +15,20 @@ checks s = wordChecks (s .args .bits * s .args .per) (s .args .q) (s .args .word
 past1 : (c : tie.Else1) → Past (checks (c .before .before)) 1
 past1 c = pass tt _ _ (le-leb _ _ (c .if1 .left))
 
-mul-if1 : tie.Need-mul-if1
-mul-if1 c = search needs
+mul-count : tie.Need-mul-count
+mul-count c = search needs
 
 refuse-requires : tie.Need-refuse-requires
 refuse-requires c κs = search needs
 
 returns : tie.Need-returns
 returns c = c .refuse .ensures ∙ sym (fail tt _ _ (lt-leb _ _ (c .before .if1 .taken)))
+
+all-below-requires : tie.Need-all-below-requires
+all-below-requires c κs = search needs
+
+returns-2 : tie.Need-returns-2
+returns-2 c = sym (past1 (c .before .before) ∙ pass tt _ _ (sym (c .before .all-below .ensures) ∙ c .if2 .taken) ∙ pass-all tt)
 
 first-not-below-requires : tie.Need-first-not-below-requires
 first-not-below-requires c κs = search needs
@@ -33,27 +39,29 @@ enum-known-i c = search needs
 refuse-requires-2 : tie.Need-refuse-requires-2
 refuse-requires-2 c κs = search needs
 
-returns-2 : tie.Need-returns-2
-returns-2 c =
+returns-3 : tie.Need-returns-3
+returns-3 c =
     c .refuse2 .ensures
-    ∙ sym (past1 (c .before .before .before .before .before) ∙ fail-some tt _ _ _ _ _ (search-some (c .before .before .before .before .first-not-below .ensures) (c .before .before .i .given .1)))
+    ∙ sym (past1 (c .before .before .before .before .before .before .before) ∙ fail-some tt _ _ _ _ _ (search-some (c .before .before .before .before .first-not-below .ensures) (c .before .before .i .given .1)))
 
 enum-told : tie.Need-enum-told
 enum-told c = search needs
 
-returns-3 : tie.Need-returns-3
-returns-3 c = sym (past1 (c .before .before .before) ∙ pass-none tt _ _ _ _ (search-none (c .before .before .first-not-below .ensures) (c .enum-told .given .1)) ∙ pass-all tt)
+returns-4 : tie.Need-returns-4
+returns-4 c = sym (past1 (c .before .before .before .before .before) ∙ pass-none tt _ _ _ _ (search-none (c .before .before .first-not-below .ensures) (c .enum-told .given .1)) ∙ pass-all tt)
 
 pub check-words-spec : {M : Type 1} → statement M
 check-words-spec =
     tie.close
     (tie.spec
-    mul-if1
+    mul-count
     refuse-requires
     returns
+    all-below-requires
+    returns-2
     first-not-below-requires
     enum-known-i
     refuse-requires-2
-    returns-2
+    returns-3
     enum-told
-    returns-3)
+    returns-4)

@@ -1,4 +1,4 @@
--- The rows of the first t bits stand in the work area.
+-- The rows of the first t bits stand in the output.
 use mathlib.Core.Path.{_≡_, refl, _∙_}
 use Prim.Native.Nat.{_+_, _-_, _*_, _≤_}
 use native.Mathlib.Omega.{arith}
@@ -7,31 +7,30 @@ use borrow.Author.Needs.{needs}
 use Rattle.buffers.specs.Overwrite.{overwrite}
 use Rattle.buffers.specs.Positions.{at, rows, after}
 use Rattle.buffers.specs.Rows.{rows-none, rows-next, rows-all, rows-length}
-use Rattle.conversion.specs.Conversion.{bitWords}
 use Rattle.conversion.specs.Arrays.{drawn-part}
-use Rattle.sampler.specs.Sampler.{row}
-use Rattle.sampler.proofs.Steps.{row-fits, row-done}
-use Rattle.sampler.proofs.convert_string.Statement.{statement}
-use Rattle.sampler.proofs.convert_string.Tie as tie
+use Rattle.conversion.specs.Conversion.{bitWords, row}
+use Rattle.conversion.proofs.Steps.{row-fits, row-done}
+use Rattle.conversion.proofs.convert_string.Statement.{statement}
+use Rattle.conversion.proofs.convert_string.Tie as tie
 
 abbrev Inv-loop : tie.InvT-loop
-Inv-loop shares n k q words start work₀ to copy t₀ work t = (t ≤ k) × (work ≡ overwrite work₀ to (rows t n (row q n (at shares) (after start (at words)))))
+Inv-loop shares n k q words start out₀ to array t₀ out t = (t ≤ k) × (out ≡ overwrite out₀ to (rows t n (row q n (at shares) (after start (at words)))))
 
 abbrev μ-loop : tie.MeasureT-loop
-μ-loop shares n k q words start work₀ to copy t₀ work t = k - t
+μ-loop shares n k q words start out₀ to array t₀ out t = k - t
 
 -- the next row has its words and its room
 next-words : (c : tie.In-loop Inv-loop μ-loop) → let s = c .before .before .before .before .before .before .before .before .args in s .start + (c .before .loop .t * bitWords (s .n) + bitWords (s .n)) ≤ length (s .words .now)
 next-words c = let s = c .before .before .before .before .before .before .before .before in omega (arith, row-fits (bitWords (s .args .n)) (c .loop-test .taken), s .pre .5 .room)
 
-next-row : (c : tie.In-loop Inv-loop μ-loop) → let s = c .before .before .before .before .before .before .before .before .args in s .to + (c .before .loop .t * s .n + s .n) ≤ length (s .work .now)
+next-row : (c : tie.In-loop Inv-loop μ-loop) → let s = c .before .before .before .before .before .before .before .before .args in s .to + (c .before .loop .t * s .n + s .n) ≤ length (s .out .now)
 next-row c = let s = c .before .before .before .before .before .before .before .before in omega (arith, row-fits (s .args .n) (c .loop-test .taken), s .pre .6)
 
-slice-aggregate-copy : tie.Need-slice-aggregate-copy Inv-loop μ-loop
-slice-aggregate-copy c = search needs
+slice-aggregate-gather : tie.Need-slice-aggregate-gather Inv-loop μ-loop
+slice-aggregate-gather c = search needs
 
-copy-requires : tie.Need-copy-requires Inv-loop μ-loop
-copy-requires c κs = search needs
+gather-requires : tie.Need-gather-requires Inv-loop μ-loop
+gather-requires c κs = search needs
 
 loop-holds : tie.Need-loop-holds Inv-loop μ-loop
 loop-holds c = (omega arith, rows-none _ _ _ _)
@@ -75,7 +74,8 @@ loop-less c = search needs
 loop-again : tie.Need-loop-again Inv-loop μ-loop
 loop-again c = let s = c .before .before .before .before .before .before .before .before .before .before .before .before .before in
     let l = c .before .before .before .before .before .before .loop in
-    let e = row-done _ _ (l .t) (s .args .shares .now) _ (s .pre .3 .large) (s .pre .4) (c .before .before .before .before .before .before .before .before .copy2 .ensures) (s .args .start) _ (s .args .words .now) refl in
+    let g = c .before .before .before .before .before .before .before .before .gather in
+    let e = row-done _ _ (l .t) (s .args .shares .now) (g .last .1 .1 .0) (s .pre .3 .large) (g .ensures .1) (s .args .start) _ (s .args .words .now) refl in
     (omega arith, c .before .before .convert-at .ensures ∙ rows-next _ _ _ _ _ _ _ (l .inv .1) e)
 
 same-length : tie.Need-same-length Inv-loop μ-loop
@@ -91,8 +91,8 @@ convert-string-spec =
     (tie.spec
     Inv-loop
     μ-loop
-    slice-aggregate-copy
-    copy-requires
+    slice-aggregate-gather
+    gather-requires
     loop-holds
     sub-convert-at
     mul-convert-at

@@ -1,0 +1,60 @@
+/* The sampler of document 01 in C. The file that includes this one says by which functions it reckons modulo q: add, sub and less_twice
+ * (v - 2vb for a bit b), on operands below q. */
+#ifndef BENCH_SAMPLER_H
+#define BENCH_SAMPLER_H
+
+#include "checks.h"
+
+#include <string.h>
+
+/* Steps 1 to 3: the row of bit t, from its n(n - 1) words. */
+static inline void convert_bit(const uint16_t *shares, size_t t, size_t n, uint32_t q, const uint16_t *words, uint16_t *row)
+{
+    uint16_t c[8];
+    c[0] = (shares[0] >> t) & 1;
+    for (size_t j = 1; j < n; j++) {
+        uint32_t bit = (shares[j] >> t) & 1;
+        uint32_t sum = 0;
+        for (size_t i = 0; i < j; i++) {
+            uint32_t r = *words++;
+            sum = add(sum, r, q);
+            c[i] = less_twice(sub(c[i], r, q), bit, q);
+        }
+        c[j] = less_twice(sum, bit, q);
+        c[0] = add(c[0], bit, q);
+    }
+    for (size_t i = 0; i < n; i++)
+        for (size_t m = i + 1; m < n; m++) {
+            uint32_t r = *words++;
+            c[i] = add(c[i], r, q);
+            c[m] = sub(c[m], r, q);
+        }
+    memcpy(row, c, n * sizeof *row);
+}
+
+/* Output share i: the sum of column i over the k rows of x, less that over the k rows of y behind them. */
+static inline uint16_t column_share(const uint16_t *work, size_t n, size_t k, uint32_t q, size_t i)
+{
+    uint32_t total = 0;
+    for (size_t t = 0; t < k; t++)
+        total = add(total, work[t * n + i], q);
+    for (size_t t = k; t < 2 * k; t++)
+        total = sub(total, work[t * n + i], q);
+    return total;
+}
+
+static inline tp_answer sample(size_t n, size_t k, uint16_t q, const uint16_t *x, size_t x_len, const uint16_t *y, size_t y_len,
+                               const uint16_t *words, size_t words_len, uint16_t *out, size_t out_len, uint16_t *work, size_t work_len)
+{
+    tp_answer checked = check_sample(n, k, q, x, x_len, y, y_len, words, words_len, out_len, work_len);
+    if (checked.code != 0)
+        return checked;
+    for (size_t t = 0; t < 2 * k; t++)
+        convert_bit(t < k ? x : y, t < k ? t : t - k, n, q, words + t * n * (n - 1), work + t * n);
+    for (size_t i = 0; i < n; i++)
+        out[i] = column_share(work, n, k, q, i);
+    memset(work, 0, 2 * k * n * sizeof *work);
+    return checked;
+}
+
+#endif
