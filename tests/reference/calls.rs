@@ -133,6 +133,11 @@ pub fn parameters(n: u64, k: u64, q: u64) -> Verdict<()> {
     ask(q >= 2 * k + 1, 3, 0)
 }
 
+/// W, the random words that a sample takes.
+pub fn words_needed(n: u64, k: u64) -> u64 {
+    2 * k * n * (n - 1)
+}
+
 /// The sampler. The strings are the shares of x and the shares of y.
 pub fn sample(n: u64, k: u64, q: u64, strings: [&[u64]; 2], words: &[u64], out: &mut [u64], work: &mut [u64]) -> Verdict<u64> {
     let [x, y] = strings;
@@ -141,7 +146,7 @@ pub fn sample(n: u64, k: u64, q: u64, strings: [&[u64]; 2], words: &[u64], out: 
     ask(y.len() as u64 == n, 5, 0)?;
     ask_all(x, 6, |s| !has_bits_at_or_above(s, k))?;
     ask_all(y, 7, |s| !has_bits_at_or_above(s, k))?;
-    let count = 2 * k * n * (n - 1);
+    let count = words_needed(n, k);
     ask(words.len() as u64 >= count, 8, 0)?;
     ask_all(&words[..count as usize], 9, |r| r < q)?;
     ask(out.len() as u64 >= n, 10, 0)?;
@@ -150,9 +155,7 @@ pub fn sample(n: u64, k: u64, q: u64, strings: [&[u64]; 2], words: &[u64], out: 
     for row in 0..2 * k {
         let (shares, bit) = if row < k { (x, row) } else { (y, row - k) };
         let bits: Vec<u64> = shares.iter().map(|s| s >> bit & 1).collect();
-        let first = row * n * (n - 1);
-        let numbers = numbers_of_bit(q, &bits, &words[first..first + n * (n - 1)]);
-        work[row * n..(row + 1) * n].copy_from_slice(&numbers);
+        convert_bit(n as u64, q, &bits, &words[row * n * (n - 1)..], &mut work[row * n..]).expect("a shared bit and its words");
     }
     for (i, share) in out[..n].iter_mut().enumerate() {
         let x_sum = (0..k).map(|row| work[row * n + i]).sum::<u64>() % q;

@@ -1,12 +1,15 @@
 //! The lesson program under test, compared byte for byte with what it should print.
 
-use crate::files::{made, Dice};
-use crate::lesson::{expected, lesson};
+use crate::draw::Dice;
+use crate::files::made;
+use crate::lesson::{lesson, Lesson, MOST_WORDS};
+use crate::show::{difference, excerpt, hex};
 use crate::tally::Tally;
 use std::collections::BTreeMap;
 use std::io::{ErrorKind, Write};
 use std::process::{ChildStdin, Command, Output, Stdio};
 use std::sync::atomic::{AtomicUsize, Ordering};
+use std::sync::Mutex;
 use std::thread;
 use std::time::Duration;
 
@@ -63,31 +66,6 @@ fn run(program: &str, file: &[u8], delivery: Delivery) -> Output {
     })
 }
 
-/// Bytes in upper-case hex, at most some hundred.
-fn hex(bytes: &[u8]) -> String {
-    let shown: String = bytes.iter().take(300).map(|byte| format!(" {byte:02X}")).collect();
-    shown + if bytes.len() > 300 { " .." } else { "" }
-}
-
-/// An output as text; of a long one the part about the place.
-fn excerpt(output: &[u8], place: usize) -> String {
-    if output.len() <= 600 {
-        return format!("{:?}", String::from_utf8_lossy(output));
-    }
-    let from = place.saturating_sub(80);
-    let to = output.len().min(from + 300);
-    format!("from byte {from} of {}: {:?}", output.len(), String::from_utf8_lossy(&output[from..to]))
-}
-
-/// Where two outputs differ.
-fn difference(found: &[u8], want: &[u8]) -> Option<String> {
-    if found == want {
-        return None;
-    }
-    let place = found.iter().zip(want).take_while(|(a, b)| a == b).count();
-    Some(format!("  printed   {}\n  should be {}\n", excerpt(found, place), excerpt(want, place)))
-}
-
 /// What is wrong with the program's run on a file.
 fn fault(output: &Output, want: &[u8]) -> Option<String> {
     let mut text = difference(&output.stdout, want).unwrap_or_default();
@@ -104,6 +82,11 @@ fn fault(output: &Output, want: &[u8]) -> Option<String> {
     }
 }
 
+/// What the lesson program should do. Its word buffer starts as 1,792 zeros.
+fn run_expected(file: &[u8]) -> Lesson {
+    lesson(file, &mut [0; MOST_WORDS as usize])
+}
+
 /// A file with the output that is stored for it.
 struct Case {
     name: String,
@@ -116,7 +99,7 @@ fn wrong_cases(program: &str, cases: &[Case]) -> usize {
     let mut wrong = 0;
     for case in cases {
         let run = fault(&run(program, &case.file, Delivery::AtOnce), &case.output);
-        let worked_out = difference(&expected(&case.file), &case.output);
+        let worked_out = difference(&run_expected(&case.file).printed, &case.output);
         for (what, text) in [("the program", run), ("worked out", worked_out)] {
             if let Some(text) = text {
                 wrong += 1;
@@ -194,51 +177,44 @@ struct Made<'a> {
     count: usize,
     next: AtomicUsize,
     differences: AtomicUsize,
+    tally: Mutex<Tally>,
 }
 
 impl Made<'_> {
     /// Takes the next number until none is left.
-    fn compare(&self) -> Tally {
-        let mut tally = Tally::default();
+    fn compare(&self) {
         while self.differences.load(Ordering::SeqCst) < MOST_DIFFERENCES {
             let number = self.next.fetch_add(1, Ordering::SeqCst);
             if number >= self.count {
                 break;
             }
             let (kind, file) = made(self.seed, number);
-            let want = lesson(&file);
+            let want = run_expected(&file);
             let output = run(self.program, &file, delivery(self.seed, number, &file));
             if let Some(text) = fault(&output, &want.printed) {
                 if self.differences.fetch_add(1, Ordering::SeqCst) < MOST_DIFFERENCES {
                     eprintln!("seed {}, file {number} ({kind}, {} bytes):{}\n{text}", self.seed, file.len(), hex(&file));
                 }
             }
-            tally.count(&want);
+            self.tally.lock().expect("the tally").count(&want);
         }
-        tally
     }
 }
 
 /// Answers how many files made from the seed are wrong, and how much they should have met and did not.
 fn wrong_made_files(program: &str, seed: u64, count: usize) -> usize {
-    let made = Made { program, seed, count, next: AtomicUsize::new(0), differences: AtomicUsize::new(0) };
-    let tally = thread::scope(|scope| {
-        let other = scope.spawn(|| made.compare());
-        let mut tally = made.compare();
-        tally.add(other.join().expect("the other half"));
-        tally
+    let (next, differences) = (AtomicUsize::new(0), AtomicUsize::new(0));
+    let made = Made { program, seed, count, next, differences, tally: Mutex::default() };
+    thread::scope(|scope| {
+        scope.spawn(|| made.compare());
+        made.compare();
     });
     let differences = made.differences.into_inner();
     if differences >= MOST_DIFFERENCES {
         eprintln!("{MOST_DIFFERENCES} differences, the rest is not tried");
         return differences;
     }
-    tally.print();
-    let gaps = tally.gaps();
-    for gap in &gaps {
-        eprintln!("{gap}");
-    }
-    differences + gaps.len()
+    differences + made.tally.into_inner().expect("the tally").print()
 }
 
 /// Compares the program with the stored cases, the examples and the files made from a seed.

@@ -1,55 +1,8 @@
 //! Lesson files made from a seed: good ones, and ones damaged in each way that document 01 refuses.
 
-use crate::calls;
+use crate::calls::words_needed;
+use crate::draw::{modulus, random_words, shares, too_high, too_wide, unjudged_word, Dice};
 use crate::lesson::{MOST_BYTES, MOST_WORDS};
-
-/// Numbers drawn from a seed (splitmix64).
-pub struct Dice {
-    state: u64,
-}
-
-impl Dice {
-    /// The numbers for one file, which follow from the seed and the file's number alone.
-    pub fn new(seed: u64, number: u64) -> Dice {
-        let seed = Dice { state: seed }.next();
-        Dice { state: Dice { state: seed ^ number }.next() }
-    }
-
-    fn next(&mut self) -> u64 {
-        self.state = self.state.wrapping_add(0x9E37_79B9_7F4A_7C15);
-        let z = (self.state ^ self.state >> 30).wrapping_mul(0xBF58_476D_1CE4_E5B9);
-        let z = (z ^ z >> 27).wrapping_mul(0x94D0_49BB_1331_11EB);
-        z ^ z >> 31
-    }
-
-    /// From 0 to the bound less one.
-    pub fn below(&mut self, bound: u64) -> u64 {
-        self.next() % bound
-    }
-
-    /// Both ends are drawn too.
-    pub fn between(&mut self, low: u64, high: u64) -> u64 {
-        low + self.below(high - low + 1)
-    }
-
-    /// Once in so many times.
-    pub fn one_in(&mut self, times: u64) -> bool {
-        self.below(times) == 0
-    }
-
-    fn pick<T: Copy>(&mut self, list: &[T]) -> T {
-        list[self.below(list.len() as u64) as usize]
-    }
-
-    fn bytes(&mut self, count: usize) -> Vec<u8> {
-        (0..count).map(|_| self.next() as u8).collect()
-    }
-}
-
-/// W, the random words that a sample takes.
-fn words_needed(n: u64, k: u64) -> u64 {
-    2 * k * n * (n - 1)
-}
 
 /// Two bytes a word, the low byte first.
 fn bytes_of(words: &[u64]) -> Vec<u8> {
@@ -57,15 +10,15 @@ fn bytes_of(words: &[u64]) -> Vec<u8> {
 }
 
 /// The fields of a sample's records. RW's count stands by itself, as it may be wrong.
-struct Sample {
-    n: u64,
-    k: u64,
-    q: u64,
-    x: Vec<u64>,
-    y: Vec<u64>,
-    x_first: bool,
-    count: u64,
-    words: Vec<u64>,
+pub struct Sample {
+    pub n: u64,
+    pub k: u64,
+    pub q: u64,
+    pub x: Vec<u64>,
+    pub y: Vec<u64>,
+    pub x_first: bool,
+    pub count: u64,
+    pub words: Vec<u64>,
 }
 
 impl Sample {
@@ -82,7 +35,7 @@ impl Sample {
         }
     }
 
-    fn bytes(&self) -> Vec<u8> {
+    pub fn bytes(&self) -> Vec<u8> {
         self.records().concat()
     }
 
@@ -102,43 +55,6 @@ impl Sample {
     }
 }
 
-/// From 2k + 1 to 65,535, often one of the ends.
-fn modulus(dice: &mut Dice, k: u64) -> u64 {
-    match dice.below(8) {
-        0 => 2 * k + 1,
-        1 => 65_535,
-        2 => 2 * k + 2,
-        3 => dice.between(2 * k + 1, 2 * k + 30),
-        4 => dice.pick(&[3_329, 12_289, 8_192, 32_768, 65_534]),
-        _ => dice.between(2 * k + 1, 65_535),
-    }
-}
-
-/// n Boolean shares.
-fn shares(dice: &mut Dice, n: u64, k: u64) -> Vec<u64> {
-    let ones = (1 << k) - 1;
-    let form = dice.below(8);
-    let share = |_| match form {
-        0 => 0,
-        1 => ones,
-        2 => dice.pick(&[0, ones]),
-        _ => dice.between(0, ones),
-    };
-    (0..n).map(share).collect()
-}
-
-/// Words below q.
-fn random_words(dice: &mut Dice, q: u64, count: u64) -> Vec<u64> {
-    let form = dice.below(10);
-    let word = |_| match form {
-        0 => 0,
-        1 => q - 1,
-        2 => dice.pick(&[0, q - 1]),
-        _ => dice.below(q),
-    };
-    (0..count).map(word).collect()
-}
-
 /// A good sample with exactly W words.
 fn good(dice: &mut Dice, n: u64, k: u64) -> Sample {
     let q = modulus(dice, k);
@@ -149,10 +65,8 @@ fn good(dice: &mut Dice, n: u64, k: u64) -> Sample {
 
 /// Words past W are not judged and may be q or more.
 fn lengthen(dice: &mut Dice, sample: &mut Sample, count: u64) {
-    let q = sample.q;
     while sample.count < count {
-        let word = dice.pick(&[0, q - 1, q, 65_535]);
-        sample.words.push(if dice.one_in(2) { word } else { dice.below(65_536) });
+        sample.words.push(unjudged_word(dice, sample.q));
         sample.count += 1;
     }
 }
@@ -303,12 +217,6 @@ fn unfit_parameters_cut(dice: &mut Dice, turn: usize) -> Vec<u8> {
 
 // 6, 7, 8 and 9.
 
-/// The share with one of the bits k to 15 set, or all of them.
-fn too_wide(dice: &mut Dice, share: u64, k: u64) -> u64 {
-    let inside = dice.between(k, 15);
-    share | dice.pick(&[1 << k, 1 << 15, 1 << inside, 65_536 - (1 << k)])
-}
-
 /// One share of a list gets too wide.
 fn widen(dice: &mut Dice, list: &mut [u64], k: u64) {
     let place = dice.below(list.len() as u64) as usize;
@@ -368,8 +276,7 @@ fn old_words(dice: &mut Dice, turn: usize) -> Vec<u8> {
 
 /// A word that is not below q.
 fn make_high(dice: &mut Dice, sample: &mut Sample, place: usize) {
-    let above = (sample.q + 1).min(65_535);
-    sample.words[place] = dice.pick(&[sample.q, above, 65_535]);
+    sample.words[place] = too_high(dice, sample.q);
 }
 
 /// The first, the last and a middle word of the W.
@@ -711,38 +618,4 @@ pub fn made(seed: u64, number: usize) -> (&'static str, Vec<u8>) {
         }
         place -= times;
     }
-}
-
-/// Two strings of k bits whose weight difference has the sign asked for.
-fn strings_of_sign(dice: &mut Dice, k: u64, sign: i64) -> (u64, u64) {
-    loop {
-        let (x, y) = (dice.below(1 << k), dice.below(1 << k));
-        if calls::weight_difference(k, x, y).expect("strings of k bits").signum() == sign {
-            return (x, y);
-        }
-    }
-}
-
-/// n shares of a string: masks drawn evenly, and the string XOR all masks.
-fn masked(dice: &mut Dice, n: u64, k: u64, string: u64) -> Vec<u64> {
-    let masks: Vec<u64> = (1..n).map(|_| dice.below(1 << k)).collect();
-    let mut out = vec![0; n as usize];
-    calls::mask(n, k, string, &masks, &mut out).expect("a string of k bits");
-    out
-}
-
-/// A lesson for a published parameter set: three to six samples with different n; negative, zero and positive ones among them.
-pub fn example(set: u64, seed: u64) -> Vec<u8> {
-    let (k, q) = calls::parameter_set(set).expect("a set number from 1 to 7");
-    let mut dice = Dice::new(seed, set);
-    let mut numbers_of_shares: Vec<u64> = (2..=8).collect();
-    let mut file = Vec::new();
-    for place in 0..dice.between(3, 6) {
-        let n = numbers_of_shares.remove(dice.below(numbers_of_shares.len() as u64) as usize);
-        let (x, y) = strings_of_sign(&mut dice, k, [-1, 0, 1][place as usize % 3]);
-        let (x, y, x_first) = (masked(&mut dice, n, k, x), masked(&mut dice, n, k, y), dice.one_in(2));
-        let words: Vec<u64> = (0..words_needed(n, k)).map(|_| dice.below(q)).collect();
-        file.extend(Sample { n, k, q, x, y, x_first, count: words.len() as u64, words }.bytes());
-    }
-    file
 }

@@ -65,10 +65,11 @@ impl Mark {
     }
 }
 
-/// What is left of a file, from an offset on.
+/// What is left of a file, from an offset on, and the word buffer.
 struct Reader<'a> {
     file: &'a [u8],
     at: usize,
+    buffer: &'a mut [u64],
 }
 
 impl<'a> Reader<'a> {
@@ -119,15 +120,16 @@ impl<'a> Reader<'a> {
         }
     }
 
-    /// RW's words. A count above 1,792 answers 20 as soon as the count is whole.
-    fn random_words(&mut self) -> Result<(Mark, Vec<u64>), Refusal> {
+    /// RW's words fill the buffer from the front. A count above 1,792 answers 20 as soon as the count is whole.
+    fn random_words(&mut self) -> Result<(Mark, usize), Refusal> {
         let mark = self.mark(Record::RandomWords, &[b"RW"])?;
         let count = two_bytes(self.fields(&mark, 2, Cut::InCount)?);
         if count > MOST_WORDS {
             return Err(mark.refused(20, Cut::Nowhere));
         }
         let words = self.words(&mark, count)?;
-        Ok((mark, words))
+        self.buffer[..words.len()].copy_from_slice(&words);
+        Ok((mark, words.len()))
     }
 
     /// PM, then XB and YB in either order, once each, then RW; and the sampler's other questions when RW is complete.
@@ -138,10 +140,10 @@ impl<'a> Reader<'a> {
         let first_shares = self.words(&first, n)?;
         let second = self.mark(Record::SecondList, &[if x_first { b"YB" } else { b"XB" }])?;
         let second_shares = self.words(&second, n)?;
-        let (random, words) = self.random_words()?;
+        let (random, count) = self.random_words()?;
         let (x, y) = if x_first { (&first_shares, &second_shares) } else { (&second_shares, &first_shares) };
         let (mut out, mut work) = (vec![0; n as usize], vec![0; 2 * (k * n) as usize]);
-        match sample(n, k, q, [x, y], &words, &mut out, &mut work) {
+        match sample(n, k, q, [x, y], &self.buffer[..count], &mut out, &mut work) {
             Ok(used) => {
                 let centred = centred_sample(n, k, q, [x, y], &out);
                 let shares: String = out.iter().map(|share| format!(" {share}")).collect();
@@ -177,12 +179,12 @@ fn centred_sample(n: u64, k: u64, q: u64, strings: [&[u64]; 2], shares: &[u64]) 
 }
 
 /// The samples up to the end of the file or a refusal. A file that ends after a complete sample is complete.
-fn samples(file: &[u8]) -> (Vec<Accepted>, Option<Refusal>) {
+fn samples(file: &[u8], buffer: &mut [u64]) -> (Vec<Accepted>, Option<Refusal>) {
     let mut accepted = Vec::new();
     if file.len() > MOST_BYTES {
         return (accepted, Some(Refusal { number: 21, file_place: 0, record: Record::File, cut: Cut::Nowhere }));
     }
-    let mut reader = Reader { file, at: 0 };
+    let mut reader = Reader { file, at: 0, buffer };
     while reader.left() > 0 {
         match reader.sample(accepted.len() + 1) {
             Ok(sample) => accepted.push(sample),
@@ -192,9 +194,9 @@ fn samples(file: &[u8]) -> (Vec<Accepted>, Option<Refusal>) {
     (accepted, None)
 }
 
-/// The header, a line for each sample, and the refusal where there is one.
-pub fn lesson(file: &[u8]) -> Lesson {
-    let (accepted, refusal) = samples(file);
+/// The header, a line for each sample, and the refusal where there is one. The word buffer has 1,792 places or more.
+pub fn lesson(file: &[u8], buffer: &mut [u64]) -> Lesson {
+    let (accepted, refusal) = samples(file, buffer);
     let mut printed = "no n k q used sample shares\n".to_string();
     for sample in &accepted {
         printed += &sample.line;
@@ -203,9 +205,4 @@ pub fn lesson(file: &[u8]) -> Lesson {
         printed += &format!("refused {} {}\n", r.number, r.file_place);
     }
     Lesson { printed: printed.into_bytes(), accepted, refusal }
-}
-
-/// What the lesson program should print for the bytes of a file.
-pub fn expected(file: &[u8]) -> Vec<u8> {
-    lesson(file).printed
 }

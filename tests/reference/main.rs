@@ -1,15 +1,18 @@
 //! A second reading of document 01, written from the page alone and sharing no code with the library or its programs.
 //!
-//! - `reference demo FILE NUMBER..` works out the lines that the demo program printed.
+//! - `reference exam FILE` works out the lines of the exam's sheet.
 //! - `reference lessons PROGRAM STORED EXAMPLES SEED COUNT` works out what the lesson program prints.
 //! - `reference example SET SEED` writes a lesson for a published parameter set. The folder of examples holds those of sets 1 to 7, each
 //!   made with the seed 2026.
 
 mod calls;
 mod compare;
-mod demo;
+mod draw;
+mod exam;
+mod example;
 mod files;
 mod lesson;
+mod show;
 mod tally;
 
 use std::io::Write;
@@ -20,7 +23,7 @@ fn number(text: &str) -> u64 {
 }
 
 fn write_example(set: u64, seed: u64) -> bool {
-    std::io::stdout().write_all(&files::example(set, seed)).expect("standard output");
+    std::io::stdout().write_all(&example::example(set, seed)).expect("standard output");
     true
 }
 
@@ -28,10 +31,10 @@ fn main() {
     let arguments: Vec<String> = std::env::args().skip(1).collect();
     let arguments: Vec<&str> = arguments.iter().map(String::as_str).collect();
     let right = match &arguments[..] {
-        ["demo", file, numbers @ ..] => demo::is_right(file, numbers),
+        ["exam", file] => exam::is_right(file),
         ["lessons", program, stored, examples, seed, count] => compare::is_right(program, stored, examples, number(seed), number(count) as usize),
         ["example", set, seed] => write_example(number(set), number(seed)),
-        _ => panic!("demo FILE NUMBER.., lessons PROGRAM STORED EXAMPLES SEED COUNT or example SET SEED"),
+        _ => panic!("exam FILE, lessons PROGRAM STORED EXAMPLES SEED COUNT or example SET SEED"),
     };
     if !right {
         exit(1);

@@ -65,6 +65,14 @@ fn all_places() -> BTreeSet<(Place, bool)> {
     both.filter(|(place, later)| place.1 != Record::File || !later).collect()
 }
 
+/// Prints what was not met. Answers how much it is.
+pub fn print_gaps(gaps: &[String]) -> usize {
+    for gap in gaps {
+        eprintln!("{gap}");
+    }
+    gaps.len()
+}
+
 /// Counts over the made files.
 #[derive(Default)]
 pub struct Tally {
@@ -92,19 +100,6 @@ impl Tally {
         }
     }
 
-    /// The files of another tally too.
-    pub fn add(&mut self, other: Tally) {
-        self.files += other.files;
-        self.complete += other.complete;
-        self.samples += other.samples;
-        self.x_first += other.x_first;
-        self.y_first += other.y_first;
-        self.pairs.extend(other.pairs);
-        for (place, times) in other.refusals {
-            *self.refusals.entry(place).or_default() += times;
-        }
-    }
-
     /// A place with its counts in the first sample and in later ones.
     fn counts(&self, place: Place) -> String {
         let times = |later| self.refusals.get(&(place, later)).unwrap_or(&0);
@@ -114,8 +109,8 @@ impl Tally {
         }
     }
 
-    /// The counts in a few lines.
-    pub fn print(&self) {
+    /// Prints the counts in a few lines, and what is missing. Answers how much that is.
+    pub fn print(&self) -> usize {
         println!("lessons: {} files made, {} complete, {} samples printed", self.files, self.complete, self.samples);
         println!("  pairs of n and k {}, XB first {}, YB first {}", self.pairs.len(), self.x_first, self.y_first);
         println!("  refusals, in the first sample + in later ones:");
@@ -124,10 +119,11 @@ impl Tally {
             let places = PLACES.iter().filter(|place| place.0 == number);
             println!("  {number}: {}", places.map(|place| self.counts(*place)).collect::<Vec<_>>().join(", "));
         }
+        print_gaps(&self.gaps())
     }
 
     /// What the files should have met and did not, and what they should not have met.
-    pub fn gaps(&self) -> Vec<String> {
+    fn gaps(&self) -> Vec<String> {
         let (table, met) = (all_places(), self.refusals.keys().copied().collect());
         let name =
             |(place, later): &(Place, bool)| format!("{} at {}, {}", place.0, place_name(*place), if *later { "later" } else { "first sample" });

@@ -22,9 +22,16 @@ use Rattle.sampler.specs.Columns.{columnShare}
 
 -- ---- the work area with the rows of both strings
 
--- column i of row t
-pub column-lt : {q start k n : ℕ} {work : List ℕ} (t i : ℕ) → t < k → i < n → Drawn q start (k * n) work → at work (start + (t * n + i)) < q
-column-lt {n = n} t i h l d = d .below (t * n + i) (digits-lt h l)
+-- column i of row t, in the first half and in the second
+module _ (q n k t i : ℕ) (work : List ℕ) (h : t < k) (l : i < n) (d : Drawn q 0 (workLength n k) work) where
+  pub column-inside : t * n + i < k * n
+  column-inside = digits-lt h l
+
+  pub first-lt : at work (t * n + i) < q
+  first-lt = rw (N.zero-add (t * n + i)) at (d .below (t * n + i) (omega (arith, column-inside)))
+
+  pub second-lt : at work (k * n + (t * n + i)) < q
+  second-lt = rw (N.zero-add (k * n + (t * n + i))) at (d .below (k * n + (t * n + i)) (omega (arith, column-inside)))
 
 module _ (k n : ℕ) (f g : ℕ → ℕ → ℕ) where
   both-rows : List ℕ
@@ -63,11 +70,10 @@ module _ (k n : ℕ) (f g : ℕ → ℕ → ℕ) where
       inside : t * n + i < k * n
       inside = digits-lt h l
 
-      pub filled-first : at work (0 + (t * n + i)) ≡ f t i
+      pub filled-first : at work (t * n + i) ≡ f t i
       unfolding both-rows
       filled-first =
-          let z : 0 + (t * n + i) ≡ t * n + i = omega arith in
-          rw z (filled-at (t * n + i) (omega (arith, inside)) ∙ List·getD-append (rows k n f) (rows k n g) 0 (t * n + i) (omega (arith, inside, length-rows k n f)) ∙ rows-at k n f t i h l)
+          filled-at (t * n + i) (omega (arith, inside)) ∙ List·getD-append (rows k n f) (rows k n g) 0 (t * n + i) (omega (arith, inside, length-rows k n f)) ∙ rows-at k n f t i h l
 
       pub filled-second : at work (k * n + (t * n + i)) ≡ g t i
       unfolding both-rows

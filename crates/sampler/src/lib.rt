@@ -14,32 +14,30 @@ ghost use Rattle.checks.specs.Checks.{checked};
 ghost use Rattle.checks.specs.Answers.{checkedReading, outcome};
 ghost use Rattle.conversion.specs.Arrays.{Drawn, Modulus};
 ghost use Rattle.sampler.specs.Sampler.{sampleWords, sampleShares, workLength, pairChecks, sampleChecks, both, sampled};
-ghost use Rattle.sampler.specs.Columns.{columnSum, columnShare};
+ghost use Rattle.sampler.specs.Columns.{columnShare};
 ghost use Rattle.sampler.specs.Secrecy.{Secrecy};
 
-// The sum modulo q of column i over k rows, from position `start` on.
-fn sum_column(work: &[Word], start: usize, n: usize, k: usize, q: Word, i: usize) -> Wide
-    requires { ⌜ (i < n) × Modulus q × Drawn q start (k * n) (now work) ⌝ }
-    ensures { λ r. ⌜ r ≡ columnSum q n k start (at (now (work .entry))) i ⌝ }
+// Output share i: the sum of column i over the k rows of x, less that over the k rows of y behind them.
+fn sum_column(work: &[Word], n: usize, k: usize, q: Word, i: usize) -> Word
+    requires { ⌜ (i < n) × Modulus q × Drawn q 0 (workLength n k) (now work) ⌝ }
+    ensures { λ r. ⌜ r ≡ columnShare q n k (at (now (work .entry))) i ⌝ }
 {
     let modulus = residue::widen(q);
     let mut total: Wide = 0;
     for t in 0..k {
-        total = residue::add(total, residue::widen(work[start + (t * n + i)]), modulus);
+        let x = residue::widen(work[t * n + i]);
+        let y = residue::widen(work[k * n + (t * n + i)]);
+        total = residue::sub(residue::add(total, x, modulus), y, modulus);
     }
-    total
+    residue::narrow(total, q)
 }
 
-// Output share i: the sum of column i over the k rows of x, less that over the k rows of y behind them.
 fn write_shares(work: &[Word], n: usize, k: usize, q: Word, out: &mut [Word])
     requires { ⌜ Modulus q × Drawn q 0 (workLength n k) (now work) × (n ≤ length (now out)) ⌝ }
     ensures { λ _. ⌜ now (out .exit) ≡ overwrite (now (out .entry)) 0 (table n (columnShare q n k (at (now (work .entry))))) ⌝ }
 {
-    let modulus = residue::widen(q);
     for i in 0..n {
-        let x = sum_column(work, 0, n, k, q, i);
-        let y = sum_column(work, k * n, n, k, q, i);
-        out[i] = residue::narrow(residue::sub(x, y, modulus), q);
+        out[i] = sum_column(work, n, k, q, i);
     }
 }
 

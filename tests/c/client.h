@@ -1,0 +1,45 @@
+/* The groups of cases, and the calls whose output later calls take. */
+#ifndef CLIENT_H
+#define CLIENT_H
+
+#include "lend.h"
+#include "tinplateau.h"
+
+enum { SPARE = 3, SHARES = 8, BITS = 16, SAMPLE_WORDS = 2 * BITS * SHARES * (SHARES - 1) };
+
+/* A call of tp_mask and what it is to answer. */
+struct mask_case {
+    int line;
+    size_t n, k;
+    uint16_t value;
+    list masks;
+    size_t out;
+    tp_answer answer;
+    list shares;
+};
+
+/* A call of tp_sample and what it is to answer. */
+struct sample_case {
+    int line;
+    size_t n, k;
+    uint16_t q;
+    list x, y, words;
+    size_t out, work;
+    tp_answer answer;
+    list shares;
+};
+
+/* Make the call, with spare places behind what it uses, and check the answer, every buffer, and the shares if they are given. The shares
+ * that an accepted call makes are copied. */
+void mask(const struct mask_case *c, size_t spare, uint16_t shares[SHARES]);
+void sample(const struct sample_case *c, size_t spare, uint16_t shares[SHARES]);
+
+/* The shares begin with those expected. */
+void check_shares(const uint16_t shares[SHARES], list expected);
+
+void masking_cases(void);
+void conversion_cases(void);
+void sampler_cases(void);
+void lesson_cases(void);
+
+#endif

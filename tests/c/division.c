@@ -1,0 +1,25 @@
+/* A tp_sample that divides, two calls below: what tests/machine_code must find out when it reads instructions. */
+#include <stdint.h>
+
+uint32_t tp_convert_bit(uint32_t bit);
+uint32_t tp_sample(uint32_t word, uint32_t q);
+
+__attribute__((noinline)) static uint32_t reduced(uint32_t word, uint32_t q)
+{
+    return word % q;
+}
+
+__attribute__((noinline)) static uint32_t doubled(uint32_t word, uint32_t q)
+{
+    return reduced(word, q) + reduced(word + 1, q);
+}
+
+uint32_t tp_convert_bit(uint32_t bit)
+{
+    return bit;
+}
+
+uint32_t tp_sample(uint32_t word, uint32_t q)
+{
+    return doubled(word, q) + 1;
+}

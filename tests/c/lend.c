@@ -1,0 +1,146 @@
+/* Checks that are counted, and the buffers that are lent to a call. */
+#include "lend.h"
+
+#include "seeded.h"
+
+#include <stdio.h>
+#include <stdlib.h>
+#include <string.h>
+
+enum { GUARD_SIZE = 64, GUARD = 0xA5 };
+
+enum pass pass;
+
+static unsigned long checks;
+static unsigned long failed;
+static const char *case_file = "";
+static int case_line;
+
+void begin_case(const char *file, int line)
+{
+    case_file = file;
+    case_line = line;
+}
+
+void check(bool holds, const char *condition, const char *file, int line)
+{
+    checks++;
+    if (holds)
+        return;
+    failed++;
+    printf("%s:%d: %s (case %s:%d, %s pass)\n", file, line, condition, case_file, case_line, pass == EXACT ? "exact" : "guarded");
+}
+
+int report(void)
+{
+    printf("client: %lu checks, %lu failed\n", checks, failed);
+    return failed == 0 ? EXIT_SUCCESS : EXIT_FAILURE;
+}
+
+static void *allocate(size_t size)
+{
+    void *block = malloc(size);
+    if (block == NULL) {
+        fprintf(stderr, "client: no memory\n");
+        exit(EXIT_FAILURE);
+    }
+    return block;
+}
+
+static void copy(void *to, const void *from, size_t size)
+{
+    if (size > 0)
+        memcpy(to, from, size);
+}
+
+/* As words these are large, and neighbours differ. */
+static void fill(unsigned char *bytes, size_t from, size_t to)
+{
+    for (size_t i = from; i < to; i++)
+        bytes[i] = i % 2 == 0 ? 0xFF - i / 2 % 200 : 0xFF;
+}
+
+static lent exact(size_t size)
+{
+    unsigned char *block = size == 0 ? NULL : allocate(size);
+    return (lent){.block = block, .at = block};
+}
+
+static lent guarded(size_t size)
+{
+    unsigned char *block = allocate(GUARD_SIZE + size + GUARD_SIZE);
+    memset(block, GUARD, GUARD_SIZE + size + GUARD_SIZE);
+    return (lent){.block = block, .at = block + GUARD_SIZE};
+}
+
+lent lend_bytes(const void *content, size_t given, size_t size)
+{
+    lent buffer = pass == EXACT ? exact(size) : guarded(size);
+    buffer.given = given;
+    buffer.size = size;
+    copy(buffer.at, content, given);
+    if (pass == GUARDED)
+        fill(buffer.at, given, size);
+    buffer.before = allocate(size + 1);
+    copy(buffer.before, buffer.at, size);
+    return buffer;
+}
+
+lent lend(list words, size_t spare)
+{
+    return lend_bytes(words.at, words.len * sizeof *words.at, (words.len + spare) * sizeof *words.at);
+}
+
+lent lend_room(size_t words)
+{
+    return lend((list)NONE, words);
+}
+
+bool equal(const void *a, const void *b, size_t size)
+{
+    return size == 0 || memcmp(a, b, size) == 0;
+}
+
+/* What was left undefined is not compared. */
+static bool is_kept(const lent *buffer, size_t from)
+{
+    size_t to = pass == EXACT ? buffer->given : buffer->size;
+    return to <= from || equal((const unsigned char *)buffer->at + from, buffer->before + from, to - from);
+}
+
+static bool is_guard(const unsigned char *bytes)
+{
+    size_t i = 0;
+    while (i < GUARD_SIZE && bytes[i] == GUARD)
+        i++;
+    return i == GUARD_SIZE;
+}
+
+void take_back(lent buffer, const void *written, size_t size)
+{
+    CHECK(equal(buffer.at, written, size));
+    CHECK(is_kept(&buffer, size));
+    if (pass == GUARDED) {
+        CHECK(is_guard(buffer.block));
+        CHECK(is_guard(buffer.block + GUARD_SIZE + buffer.size));
+    }
+    free(buffer.before);
+    free(buffer.block);
+}
+
+void take_back_kept(lent buffer)
+{
+    take_back(buffer, NULL, 0);
+}
+
+void take_back_words(lent buffer, uint16_t *words, size_t count)
+{
+    copy(words, buffer.at, count * sizeof *words);
+    take_back(buffer, words, count * sizeof *words);
+}
+
+uint16_t random_below(uint32_t bound)
+{
+    static uint64_t state = 1;
+    return seeded_below(&state, bound);
+}

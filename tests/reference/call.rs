@@ -1,0 +1,330 @@
+//! A call of the C interface with its inputs: what it should leave behind, worked out from document 01, and what the library leaves behind.
+
+use crate::calls::{centre, convert_bit, mask, open_residue, open_string, parameter_set, sample, weight_difference, Verdict};
+use crate::interface::*;
+use crate::lesson::{lesson, MOST_BYTES, MOST_WORDS};
+use crate::show::{difference, hex};
+
+#[derive(Clone, Copy, Debug, PartialEq, Eq, PartialOrd, Ord)]
+pub enum Function {
+    Mask,
+    OpenString,
+    OpenResidue,
+    Centred,
+    WeightDifference,
+    ParameterSet,
+    ConvertBit,
+    Sample,
+    LessonText,
+}
+
+pub const FUNCTIONS: [Function; 9] = [
+    Function::Mask,
+    Function::OpenString,
+    Function::OpenResidue,
+    Function::Centred,
+    Function::WeightDifference,
+    Function::ParameterSet,
+    Function::ConvertBit,
+    Function::Sample,
+    Function::LessonText,
+];
+
+/// A function's name, the names of its numbers and lists in their order, and its refusals, each with the last place that it can have.
+pub struct Form {
+    pub name: &'static str,
+    pub numbers: &'static [&'static str],
+    pub lists: &'static [&'static str],
+    pub refusals: &'static [(u64, u64)],
+}
+
+const fn form(name: &'static str, numbers: &'static [&'static str], lists: &'static [&'static str], refusals: &'static [(u64, u64)]) -> Form {
+    Form { name, numbers, lists, refusals }
+}
+
+/// The place of a name.
+pub fn place_of(names: &[&str], name: &str) -> Option<usize> {
+    names.iter().position(|other| *other == name)
+}
+
+impl Function {
+    pub const fn form(self) -> Form {
+        match self {
+            Function::Mask => form("tp_mask", &["n", "k", "value"], &["masks", "out"], &[(1, 0), (2, 0), (12, 0), (13, 0), (14, 6), (10, 0)]),
+            Function::OpenString => form("tp_open_string", &["n", "k"], &["shares"], &[(1, 0), (2, 0), (4, 0), (6, 7)]),
+            Function::OpenResidue => form("tp_open_residue", &["n", "q"], &["shares"], &[(1, 0), (3, 0), (15, 0), (16, 7)]),
+            Function::Centred => form("tp_centred", &["q", "r"], &[], &[(3, 0), (17, 0)]),
+            Function::WeightDifference => form("tp_weight_difference", &["k", "x", "y"], &[], &[(2, 0), (12, 1)]),
+            Function::ParameterSet => form("tp_parameter_set", &["number"], &[], &[(22, 0)]),
+            Function::ConvertBit => {
+                let refusals = &[(1, 0), (3, 0), (4, 0), (6, 7), (8, 0), (9, 55), (10, 0)];
+                form("tp_convert_bit", &["n", "q"], &["bits", "words", "out"], refusals)
+            }
+            Function::Sample => {
+                let refusals = &[(1, 0), (2, 0), (3, 0), (4, 0), (5, 0), (6, 7), (7, 7), (8, 0), (9, 1_791), (10, 0), (11, 0)];
+                form("tp_sample", &["n", "k", "q"], &["x", "y", "words", "out", "work"], refusals)
+            }
+            Function::LessonText => form("tp_lesson_text", &[], &["file", "words", "text"], &[(8, 0), (10, 0)]),
+        }
+    }
+}
+
+/// The three numbers of an answer: the code; the count, position or k; what was opened, the value or q. One that an answer lacks is 0.
+#[derive(Clone, Copy, Debug, PartialEq, Eq)]
+pub struct Answer {
+    pub code: u64,
+    pub place: u64,
+    pub value: i64,
+}
+
+fn answer(code: u32, place: usize, value: i64) -> Answer {
+    Answer { code: code as u64, place: place as u64, value }
+}
+
+/// Accepted with a place and a value, or refused with a number and a place.
+fn judged<T>(verdict: Verdict<T>, accepted: impl Fn(T) -> (u64, i64)) -> Answer {
+    match verdict {
+        Ok(result) => {
+            let (place, value) = accepted(result);
+            Answer { code: 0, place, value }
+        }
+        Err((number, place)) => Answer { code: number, place: place as u64, value: 0 },
+    }
+}
+
+fn counted(verdict: Verdict<u64>) -> Answer {
+    judged(verdict, |count| (count, 0))
+}
+
+impl From<Counted> for Answer {
+    fn from(found: Counted) -> Answer {
+        answer(found.code, found.value, 0)
+    }
+}
+
+impl From<OpenedString> for Answer {
+    fn from(found: OpenedString) -> Answer {
+        answer(found.code, found.position, found.opened.bits as i64)
+    }
+}
+
+impl From<OpenedResidue> for Answer {
+    fn from(found: OpenedResidue) -> Answer {
+        answer(found.code, found.position, found.opened.value as i64)
+    }
+}
+
+impl From<Signed> for Answer {
+    fn from(found: Signed) -> Answer {
+        answer(found.code, found.position, found.value as i64)
+    }
+}
+
+impl From<Parameters> for Answer {
+    fn from(found: Parameters) -> Answer {
+        answer(found.code, found.k, found.q as i64)
+    }
+}
+
+/// So many elements that are not lent stand before each list, and as many behind it.
+const GUARDS: usize = 64;
+
+/// A list between its guard elements, no two neighbours of which are equal and none of which is 0.
+fn guarded(list: &[u64]) -> Vec<u64> {
+    let guard = |place: usize| 1 + 37 * place as u64 % 251;
+    let (before, behind) = ((0..GUARDS).map(guard), (GUARDS..2 * GUARDS).map(guard));
+    before.chain(list.iter().copied()).chain(behind).collect()
+}
+
+/// A list in memory between its guard elements. The pointer of an empty one may be null.
+struct Lent<T> {
+    whole: Vec<T>,
+    null: bool,
+}
+
+impl<T: Copy + TryFrom<u64> + Into<u64>> Lent<T> {
+    fn new(list: &[u64], null: bool) -> Lent<T> {
+        let fit = |x: u64| T::try_from(x).unwrap_or_else(|_| panic!("{x} does not fit in an element"));
+        Lent { whole: guarded(list).into_iter().map(fit).collect(), null: null && list.is_empty() }
+    }
+
+    fn len(&self) -> usize {
+        self.whole.len() - 2 * GUARDS
+    }
+
+    fn start(&mut self) -> *mut T {
+        if self.null {
+            std::ptr::null_mut()
+        } else {
+            self.whole.as_mut_ptr().wrapping_add(GUARDS)
+        }
+    }
+
+    fn whole(self) -> Vec<u64> {
+        self.whole.into_iter().map(T::into).collect()
+    }
+}
+
+/// How a call ends: its answer, and each list with its guard elements.
+#[derive(PartialEq, Eq)]
+pub struct Outcome {
+    pub answer: Answer,
+    guarded: Vec<Vec<u64>>,
+}
+
+impl Outcome {
+    /// A list without its guard elements.
+    pub fn list(&self, place: usize) -> &[u64] {
+        let whole = &self.guarded[place];
+        &whole[GUARDS..whole.len() - GUARDS]
+    }
+}
+
+/// The text of a lesson file in front of the text buffer, with the room for it that the header asks for.
+fn lesson_text(file: &[u64], words: &mut [u64], text: &mut [u64]) -> Verdict<u64> {
+    if (words.len() as u64) < MOST_WORDS {
+        return Err((8, 0));
+    }
+    if text.len() < text_room(file.len()) {
+        return Err((10, 0));
+    }
+    let printed = lesson(&bytes(file), words).printed;
+    for (place, byte) in printed.iter().enumerate() {
+        text[place] = *byte as u64;
+    }
+    Ok(printed.len() as u64)
+}
+
+/// The bytes that a text buffer must have for a file of so many.
+pub fn text_room(file_len: usize) -> usize {
+    if file_len > MOST_BYTES {
+        45
+    } else {
+        3 * file_len + 45
+    }
+}
+
+pub fn bytes(list: &[u64]) -> Vec<u8> {
+    list.iter().map(|x| *x as u8).collect()
+}
+
+fn bits(string: u64) -> BitString {
+    BitString { bits: string as u16 }
+}
+
+pub struct Call {
+    pub function: Function,
+    pub numbers: Vec<u64>,
+    pub lists: Vec<Vec<u64>>,
+}
+
+impl Call {
+    /// The number of a name, where the function has it.
+    pub fn number(&self, name: &str) -> Option<u64> {
+        place_of(self.function.form().numbers, name).map(|place| self.numbers[place])
+    }
+
+    pub fn expected(&self) -> Outcome {
+        let mut lists = self.lists.clone();
+        let answer = match (self.function, &self.numbers[..], &mut lists[..]) {
+            (Function::Mask, &[n, k, value], [masks, out]) => counted(mask(n, k, value, masks, out)),
+            (Function::OpenString, &[n, k], [shares]) => judged(open_string(n, k, shares), |opened| (0, opened as i64)),
+            (Function::OpenResidue, &[n, q], [shares]) => judged(open_residue(n, q, shares), |opened| (0, opened as i64)),
+            (Function::Centred, &[q, r], []) => judged(centre(q, r), |value| (0, value)),
+            (Function::WeightDifference, &[k, x, y], []) => judged(weight_difference(k, x, y), |value| (0, value)),
+            (Function::ParameterSet, &[number], []) => judged(parameter_set(number), |(k, q)| (k, q as i64)),
+            (Function::ConvertBit, &[n, q], [bits, words, out]) => counted(convert_bit(n, q, bits, words, out)),
+            (Function::Sample, &[n, k, q], [x, y, words, out, work]) => counted(sample(n, k, q, [x, y], words, out, work)),
+            (Function::LessonText, [], [file, words, text]) => counted(lesson_text(file, words, text)),
+            _ => panic!("the inputs of another function"),
+        };
+        Outcome { answer, guarded: lists.iter().map(|list| guarded(list)).collect() }
+    }
+
+    /// What the library does. The pointer of an empty list is null if asked for.
+    pub fn found(&self, null: bool) -> Outcome {
+        if self.function == Function::LessonText {
+            return self.lesson_text_found(null);
+        }
+        let mut lent: Vec<Lent<u16>> = self.lists.iter().map(|list| Lent::new(list, null)).collect();
+        // Every list is readable and writable for its length, and they do not overlap.
+        let answer = unsafe {
+            match (self.function, &self.numbers[..], &mut lent[..]) {
+                (Function::Mask, &[n, k, value], [masks, out]) => {
+                    tp_mask(n as usize, k as usize, bits(value), masks.start(), masks.len(), out.start(), out.len()).into()
+                }
+                (Function::OpenString, &[n, k], [shares]) => tp_open_string(n as usize, k as usize, shares.start(), shares.len()).into(),
+                (Function::OpenResidue, &[n, q], [shares]) => tp_open_residue(n as usize, q as u16, shares.start(), shares.len()).into(),
+                (Function::Centred, &[q, r], []) => tp_centred(q as u16, Residue { value: r as u16 }).into(),
+                (Function::WeightDifference, &[k, x, y], []) => tp_weight_difference(k as usize, bits(x), bits(y)).into(),
+                (Function::ParameterSet, &[number], []) => tp_parameter_set(number as usize).into(),
+                (Function::ConvertBit, &[n, q], [bits, words, out]) => {
+                    let (bits_len, words_len, out_len) = (bits.len(), words.len(), out.len());
+                    tp_convert_bit(n as usize, q as u16, bits.start(), bits_len, words.start(), words_len, out.start(), out_len).into()
+                }
+                (Function::Sample, &[n, k, q], [x, y, words, out, work]) => tp_sample(
+                    n as usize,
+                    k as usize,
+                    q as u16,
+                    x.start(),
+                    x.len(),
+                    y.start(),
+                    y.len(),
+                    words.start(),
+                    words.len(),
+                    out.start(),
+                    out.len(),
+                    work.start(),
+                    work.len(),
+                )
+                .into(),
+                _ => panic!("the inputs of another function"),
+            }
+        };
+        Outcome { answer, guarded: lent.into_iter().map(Lent::whole).collect() }
+    }
+
+    fn lesson_text_found(&self, null: bool) -> Outcome {
+        let [file, words, text] = &self.lists[..] else { panic!("a file and two buffers") };
+        let (mut file, mut words, mut text) = (Lent::<u8>::new(file, null), Lent::<u16>::new(words, null), Lent::<u8>::new(text, null));
+        // As above.
+        let found = unsafe { tp_lesson_text(file.start(), file.len(), words.start(), words.len(), text.start(), text.len()) };
+        Outcome { answer: found.into(), guarded: vec![file.whole(), words.whole(), text.whole()] }
+    }
+
+    /// The inputs by name, long lists in part.
+    pub fn show(&self) -> String {
+        let form = self.function.form();
+        let mut text = form.name.to_string();
+        for (name, number) in form.numbers.iter().zip(&self.numbers) {
+            text += &format!(" {name} {number}");
+        }
+        for (name, list) in form.lists.iter().zip(&self.lists) {
+            let elements = if *name == "file" { hex(&bytes(list)) } else { some(list) };
+            text += &format!("\n  {name}, {} elements:{elements}", list.len());
+        }
+        text
+    }
+
+    /// Where two outcomes of the call differ. Places count from the start of a list, so that guard elements before it are negative.
+    pub fn show_difference(&self, found: &Outcome, want: &Outcome) -> String {
+        let mut text = format!("  answered  {:?}\n  should be {:?}\n", found.answer, want.answer);
+        for (place, name) in self.function.form().lists.iter().enumerate() {
+            let (whole, right) = (&found.guarded[place], &want.guarded[place]);
+            if let Some(first) = (0..right.len()).find(|i| whole[*i] != right[*i]) {
+                let shown = first as i64 - GUARDS as i64;
+                text += &format!("  {name} from {shown} on:{}\n  should be:{}\n", some(&whole[first..]), some(&right[first..]));
+                if *name == "text" {
+                    text += &difference(&bytes(found.list(place)), &bytes(want.list(place))).unwrap_or_default();
+                }
+            }
+        }
+        text
+    }
+}
+
+/// The first elements of a list.
+fn some(list: &[u64]) -> String {
+    let shown: String = list.iter().take(60).map(|x| format!(" {x}")).collect();
+    shown + if list.len() > 60 { " .." } else { "" }
+}

@@ -1,0 +1,136 @@
+//! The library's C interface, compared with the second reading of document 01 that this folder holds.
+//!
+//! `library SEED COUNT` compares so many calls made from the seed, and counts the secrecy rule through the library.
+
+mod call;
+mod calls;
+mod draw;
+mod files;
+mod inputs;
+mod interface;
+mod lesson;
+mod met;
+mod secrecy;
+mod show;
+mod tally;
+
+use call::{bytes, Call, Function, Outcome};
+use lesson::{lesson, MOST_BYTES, MOST_WORDS};
+use met::Met;
+use std::collections::BTreeSet;
+use std::process::exit;
+use tally::{print_gaps, Tally};
+
+/// Fewer made calls than this say too little.
+const FEWEST_CALLS: usize = 100_000;
+
+/// After so many differences the rest is not tried.
+const MOST_DIFFERENCES: usize = 5;
+
+#[derive(Default)]
+struct Comparison {
+    compared: usize,
+    differences: usize,
+    met: Met,
+    lessons: Tally,
+    file_lengths: BTreeSet<usize>,
+}
+
+impl Comparison {
+    fn differs(&mut self, call: &Call, text: &str) {
+        self.differences += 1;
+        eprintln!("{}\n{text}", call.show());
+    }
+
+    /// What the library makes of the call, which is what it should.
+    fn compare(&mut self, call: &Call) -> Outcome {
+        let null = self.compared % 2 == 0;
+        let (found, want) = (call.found(null), call.expected());
+        self.compared += 1;
+        self.met.count(call, want.answer);
+        if found != want {
+            self.differs(call, &call.show_difference(&found, &want));
+        }
+        found
+    }
+
+    /// The value that a call without buffers to write answers.
+    fn value(&mut self, function: Function, numbers: &[u64], lists: &[&[u64]]) -> i64 {
+        let call = Call { function, numbers: numbers.to_vec(), lists: lists.iter().map(|list| list.to_vec()).collect() };
+        self.compare(&call).answer.value
+    }
+
+    /// The shares of an accepted sample open to the weight difference of the opened strings.
+    fn open_sample(&mut self, call: &Call, outcome: &Outcome) {
+        let &[n, k, q] = &call.numbers[..] else { panic!("n, k and q") };
+        let (x, y, shares) = (&call.lists[0], &call.lists[1], &outcome.list(3)[..n as usize]);
+        let strings = [x, y].map(|list| self.value(Function::OpenString, &[n, k], &[list]) as u64);
+        let difference = self.value(Function::WeightDifference, &[k, strings[0], strings[1]], &[]);
+        let residue = self.value(Function::OpenResidue, &[n, q], &[shares]) as u64;
+        let centred = self.value(Function::Centred, &[q, residue], &[]);
+        if !calls::adds_up(q, [x, y], shares) || centred != difference {
+            self.differs(call, &format!("  the shares {shares:?} open to {centred}, not to {difference}"));
+        }
+    }
+
+    /// The shares of an accepted masking call open to the value.
+    fn open_mask(&mut self, call: &Call, outcome: &Outcome) {
+        let &[n, k, value] = &call.numbers[..] else { panic!("n, k and the value") };
+        let shares = &outcome.list(1)[..n as usize];
+        if self.value(Function::OpenString, &[n, k], &[shares]) != value as i64 {
+            self.differs(call, &format!("  the shares {shares:?} do not open to {value}"));
+        }
+    }
+
+    /// One made call more, and what must hold of an accepted one.
+    fn take(&mut self, call: &Call) {
+        let outcome = self.compare(call);
+        match call.function {
+            _ if outcome.answer.code != 0 => (),
+            Function::Sample => self.open_sample(call, &outcome),
+            Function::Mask => self.open_mask(call, &outcome),
+            Function::LessonText => {
+                self.lessons.count(&lesson(&bytes(&call.lists[0]), &mut [0; MOST_WORDS as usize]));
+                self.file_lengths.insert(call.lists[0].len());
+            }
+            _ => (),
+        }
+    }
+
+    /// Prints what the calls met. Answers how much they should have met and did not.
+    fn print(&self, made: usize) -> usize {
+        println!("library: {made} calls made, {} compared with those that follow from them", self.compared);
+        let lengths = [MOST_BYTES, MOST_BYTES + 1];
+        let missing: Vec<usize> = lengths.into_iter().filter(|length| !self.file_lengths.contains(length)).collect();
+        let gaps: Vec<String> = missing.iter().map(|length| format!("no file of {length} bytes")).collect();
+        self.met.print() + self.lessons.print() + print_gaps(&gaps)
+    }
+}
+
+/// Whether the library agrees on every call made from the seed.
+fn agrees(seed: u64, count: usize) -> bool {
+    if count < FEWEST_CALLS {
+        eprintln!("{count} calls are too few, at least {FEWEST_CALLS} are made");
+        return false;
+    }
+    let mut comparison = Comparison::default();
+    for number in 0..count {
+        comparison.take(&inputs::made(seed, number));
+        if comparison.differences >= MOST_DIFFERENCES {
+            eprintln!("{MOST_DIFFERENCES} differences, the last at call {number} of seed {seed}; the rest is not tried");
+            return false;
+        }
+    }
+    let gaps = comparison.print(count);
+    println!("library: {} differences, {gaps} gaps", comparison.differences);
+    comparison.differences + gaps == 0
+}
+
+fn main() {
+    let arguments: Vec<String> = std::env::args().skip(1).collect();
+    let numbers: Vec<u64> = arguments.iter().map(|text| text.parse().unwrap_or_else(|_| panic!("{text:?} is no number"))).collect();
+    let &[seed, count] = &numbers[..] else { panic!("SEED COUNT") };
+    if !(agrees(seed, count as usize) && secrecy::holds()) {
+        exit(1);
+    }
+}

@@ -1,0 +1,87 @@
+//! What the compared calls met: which function accepted or refused, why and at which places.
+
+use crate::call::{Answer, Call, Function, FUNCTIONS};
+use crate::tally::print_gaps;
+use std::collections::{BTreeMap, BTreeSet};
+
+/// Counts over the calls of one function.
+#[derive(Default)]
+struct Counts {
+    by_code: BTreeMap<u64, usize>,
+    /// The places of each refusal.
+    places: BTreeMap<u64, BTreeSet<u64>>,
+    /// The n and k of the accepted calls.
+    pairs: BTreeSet<(u64, u64)>,
+}
+
+/// Counts over all calls.
+#[derive(Default)]
+pub struct Met {
+    functions: BTreeMap<Function, Counts>,
+}
+
+impl Met {
+    /// One call more.
+    pub fn count(&mut self, call: &Call, answer: Answer) {
+        let counts = self.functions.entry(call.function).or_default();
+        *counts.by_code.entry(answer.code).or_default() += 1;
+        if answer.code != 0 {
+            counts.places.entry(answer.code).or_default().insert(answer.place);
+        } else if let (Some(n), Some(k)) = (call.number("n"), call.number("k")) {
+            counts.pairs.insert((n, k));
+        }
+    }
+
+    /// Prints a line for each function, and what is missing. Answers how much that is.
+    pub fn print(&self) -> usize {
+        let none = Counts::default();
+        let mut gaps = Vec::new();
+        for function in FUNCTIONS {
+            let counts = self.functions.get(&function).unwrap_or(&none);
+            println!("  {}", counts.line(function));
+            gaps.extend(counts.gaps(function));
+        }
+        print_gaps(&gaps)
+    }
+}
+
+impl Counts {
+    fn times(&self, code: u64) -> usize {
+        self.by_code.get(&code).copied().unwrap_or(0)
+    }
+
+    fn places(&self, number: u64) -> BTreeSet<u64> {
+        self.places.get(&number).cloned().unwrap_or_default()
+    }
+
+    fn line(&self, function: Function) -> String {
+        let form = function.form();
+        let refusal = |(number, last): &(u64, u64)| {
+            let places = if *last == 0 { String::new() } else { format!(" at {} places", self.places(*number).len()) };
+            format!("{number}: {}{places}", self.times(*number))
+        };
+        let refusals: Vec<String> = form.refusals.iter().map(refusal).collect();
+        let all: usize = self.by_code.values().sum();
+        format!("{} {all}, accepted {}, refused {}", form.name, self.times(0), refusals.join(", "))
+    }
+
+    /// What the calls should have met and did not: each refusal, at the first and the last place, and acceptance with every n and k.
+    fn gaps(&self, function: Function) -> Vec<String> {
+        let form = function.form();
+        let mut gaps = Vec::new();
+        if self.times(0) == 0 {
+            gaps.push(format!("{} accepts nothing", form.name));
+        }
+        for (number, last) in form.refusals {
+            for place in BTreeSet::from([0, *last]) {
+                if !self.places(*number).contains(&place) {
+                    gaps.push(format!("{} is never refused with {number} {place}", form.name));
+                }
+            }
+        }
+        if form.numbers.starts_with(&["n", "k"]) && self.pairs.len() != 7 * 16 {
+            gaps.push(format!("{} accepts only {} pairs of n and k", form.name, self.pairs.len()));
+        }
+        gaps
+    }
+}
