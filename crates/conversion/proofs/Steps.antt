@@ -6,8 +6,8 @@ use native.Mathlib.Nat as N
 use native.Mathlib.Omega.{arith}
 use lib.ListN.{length, set, replicate, length-set}
 use lib.Seq.{getD-set-other}
-use Rattle.residue.specs.Residue.{sub, neg, add, sum}
-use Rattle.residue.specs.Laws.{reduce-small, reduce-lt, zero-add, add-zero, add-comm, add-assoc, reduce-neg, add-lt}
+use Rattle.residue.specs.Residue.{sub, neg, add, sum, cswapSub}
+use Rattle.residue.specs.Laws.{reduce-small, reduce-lt, reduce-add, add-zero, add-comm, add-assoc, add-lt, neg-sub, sub-zero}
 use Rattle.residue.specs.Sum.{running-none, running-next, running-all, sum-last, sum-lt}
 use Rattle.buffers.specs.Positions.{at, table, rows, after, Same, Below}
 use Rattle.buffers.specs.PositionLaws.{table-same, after-after, set-agrees}
@@ -15,27 +15,15 @@ use Rattle.buffers.specs.Rows.{rows-last}
 use Rattle.checks.specs.Width.{bit, bit-lt, bit-lowest}
 use Rattle.conversion.specs.Conversion.{bitsAt, pairs, extend, lessTwice, xorBit, xorShare, convert, refresh, convertBit, row, bitWords, bitShares}
 use Rattle.conversion.specs.ZeroSharing.{zeroSharing, refresh-adds, refresh-cong}
-use Rattle.conversion.specs.Laws.{lessTwice-one, extend-below, extend-from, xorShare-cong, convert-reduced, convertBit-local}
+use Rattle.conversion.specs.Laws.{lessTwice-zero, lessTwice-one, extend-below, extend-from, xorShare-cong, convert-reduced, convertBit-local}
 use Rattle.conversion.specs.Arrays.{Holds}
 
--- ---- a number times a bit
+-- ---- a difference, less twice its product with a bit
 
-pub bit-parts : (v b : ℕ) → b < 2 → v * (1 - b) + v * b ≡ v
-bit-parts v zero h = omega arith
-bit-parts v (suc zero) h = omega arith
-bit-parts v (suc (suc b)) h = absurd (omega arith)
-
-pub sub-parts : (q v b : ℕ) → 0 < q → b < 2 → sub q (v * (1 - b)) (v * b) ≡ lessTwice q b v
-unfolding lessTwice
-sub-parts q v zero p h =
-    let e : v * (1 - 0) ≡ v = omega arith in
-    let d : v * 0 ≡ 2 * v * 0 = omega arith in
-    rw (e, d)
-sub-parts q v (suc zero) p h =
-    let e : v * (1 - 1) ≡ 0 = omega arith in
-    let d : v * 1 ≡ v = omega arith in
-    rw (e, d, zero-add, reduce-neg) (sym (lessTwice-one q p v))
-sub-parts q v (suc (suc b)) p h = absurd (omega arith)
+pub lessTwice-cswap : (q a r b : ℕ) → 0 < q → b < 2 → lessTwice q b (sub q a r) ≡ cswapSub q b a r
+lessTwice-cswap q a r zero p h = lessTwice-zero q p (sub q a r) ∙ reduce-add q a (neg q r)
+lessTwice-cswap q a r (suc zero) p h = lessTwice-one q p (sub q a r) ∙ neg-sub q p a r
+lessTwice-cswap q a r (suc (suc b)) p h = absurd (omega arith)
 
 pub lessTwice-lt : (q v b : ℕ) → 0 < q → lessTwice q b v < q
 unfolding lessTwice
@@ -55,6 +43,9 @@ module _ (q j bit : ℕ) (A r : ℕ → ℕ) where
     stored : (v : ℕ) → i < 8 → v ≡ lessTwice q bit (extend q j A r i) → (t : ℕ) → t < i + 1 → t ≤ j → at (set c i v) t ≡ lessTwice q bit (extend q j A r t)
     stored v h e t l m = set-agrees c i v (λ k. lessTwice q bit (extend q j A r k)) (omega (arith, T .eight)) e t (λ d. T .done t (omega arith) m)
 
+    pub turned-lt : 0 < q → i ≤ j → s < q
+    turned-lt p l = rw (T .summed l) (sum-lt q p i r)
+
     pub turned-below : (v z : ℕ) → i < 8 → i < j → v ≡ lessTwice q bit (sub q (A i) (r i)) → z ≡ add q s (r i) → Turned (i + 1) (set c i v) z
     turned-below v z h l e d =
         let more : z ≡ sum q (i + 1) r = running-next q r i s z (T .summed (omega arith)) d in
@@ -65,20 +56,17 @@ module _ (q j bit : ℕ) (A r : ℕ → ℕ) where
           all-summed = λ m. running-all q r (i + 1) j z (omega arith) more;
         }
 
-    pub turned-at : (v : ℕ) → i < 8 → i ≡ j → v ≡ lessTwice q bit s → Turned (i + 1) (set c i v) s
-    turned-at v h l e =
+    pub turned-at : (v : ℕ) → 0 < q → i < 8 → i ≡ j → v ≡ lessTwice q bit (sub q s 0) → Turned (i + 1) (set c i v) s
+    turned-at v p h l e =
         record {
           eight = length-set c i v ∙ T .eight;
-          done = stored v h (e ∙ ap (lessTwice q bit) (T .all-summed (omega arith) ∙ sym (extend-from q j A r i (omega arith))));
+          done = stored v h (e ∙ ap (lessTwice q bit) (sub-zero q p s ∙ reduce-small q (turned-lt p (omega arith)) ∙ T .all-summed (omega arith) ∙ sym (extend-from q j A r i (omega arith))));
           summed = λ m. absurd (omega arith);
           all-summed = λ m. T .all-summed (omega arith);
         }
 
     pub turned-past : j < i → Turned (i + 1) c s
     turned-past l = record { eight = T .eight; done = λ t m k. T .done t (omega arith) k; summed = λ m. absurd (omega arith); all-summed = λ m. T .all-summed (omega arith) }
-
-    pub turned-lt : 0 < q → i ≤ j → s < q
-    turned-lt p l = rw (T .summed l) (sum-lt q p i r)
 
     -- the bit is added to the first share
     pub turned-all : (v : ℕ) → j < i → v ≡ add q (at c 0) bit → Holds (j + 1) (xorShare q j A r bit) (set c 0 v)

@@ -8,6 +8,7 @@ use residue::Word;
 ghost use mathlib.Core.Path.{_≡_};
 ghost use Prim.Native.Nat.{_+_, _*_, _^_, _≤_, _<_};
 ghost use lib.ListN.{length};
+ghost use Rattle.residue.specs.Residue.{sub};
 ghost use Rattle.buffers.specs.Overwrite.{overwrite};
 ghost use Rattle.buffers.specs.Positions.{at, table, rows, after, Same, Below};
 ghost use Rattle.checks.specs.Width.{bit};
@@ -17,12 +18,12 @@ ghost use Rattle.conversion.specs.Conversion.{pairs, lessTwice, xorShare
 ghost use Rattle.conversion.specs.Secrecy.{BitSecrecy};
 ghost use Rattle.conversion.specs.Arrays.{Holds, Drawn, Modulus};
 
-// v - 2vb modulo q for a bit b: v, or its negative.
-fn less_twice(v: Wide, b: Wide, q: Word) -> Word
-    requires { ⌜ (v < q) × (b < 2) × (q < 2 ^ 31) ⌝ }
-    ensures { λ r. ⌜ r ≡ lessTwice q b v ⌝ }
+// B - 2Bb modulo q for B = a - r and a bit b: a - r, or r - a where b is 1.
+fn less_twice(a: Wide, r: Wide, b: Wide, q: Word) -> Word
+    requires { ⌜ (a < q) × (r < q) × (b < 2) × (q < 2 ^ 31) ⌝ }
+    ensures { λ c. ⌜ c ≡ lessTwice q b (sub q a r) ⌝ }
 {
-    residue::narrow(residue::sub(v * (1 - b), v * b, residue::widen(q)), q)
+    residue::narrow(residue::cswap_sub(a, r, b, residue::widen(q)), q)
 }
 
 // Step 2: the list for j + 1 shares of the bit, from the list for j, the j words at `start` and the next share of the bit.
@@ -38,10 +39,10 @@ fn xor_share(a: [Word; 8], j: usize, bit: Word, q: Word, words: &[Word], start: 
     for i in 0..8 {
         if i < j {
             let r = residue::widen(words[start + i]);
-            c[i] = less_twice(residue::sub(residue::widen(a[i]), r, modulus), b, q);
+            c[i] = less_twice(residue::widen(a[i]), r, b, q);
             sum = residue::add(sum, r, modulus);
         } else if i == j {
-            c[i] = less_twice(sum, b, q);
+            c[i] = less_twice(sum, 0, b, q);
         }
     }
     c[0] = residue::narrow(residue::add(residue::widen(c[0]), b, modulus), q);

@@ -192,3 +192,13 @@ module _ (q : ℕ) where
 
     pub sub-sub : (a b : ℕ) → sub q a (sub q a b) ≡ reduce q b
     sub-sub a b = rw (neg-add, neg-neg, ← add-assoc, add-neg, zero-add, reduce-reduce)
+
+    -- the difference is the one number below q whose sum with b is a
+    pub sub-unique : (a b d : ℕ) → d < q → reduce q (d + b) ≡ reduce q a → d ≡ sub q a b
+    sub-unique a b d h e = sym (rw (← add-reduce-left a, ← e, reduce-plus, add-sub-cancel) (reduce-small h))
+
+    pub neg-sub : (a b : ℕ) → neg q (sub q a b) ≡ sub q b a
+    neg-sub a b = rw (neg-add, neg-neg, add-reduce-right) (add-comm (neg q a) b)
+
+    pub sub-zero : (a : ℕ) → sub q a 0 ≡ reduce q a
+    sub-zero a = rw neg-zero (add-zero a)

@@ -1,6 +1,8 @@
 -- Arithmetic modulo q. Every operation reduces its result, so that its laws hold for all operands, below q or not.
+use mathlib.Core.Bool.{cond}
 use mathlib.Core.List.{List, [], _∷_}
 use Prim.Native.Nat.{ℕ, zero, suc, _+_, _-_, _*_, _%_, _<_}
+use lib.Dec.{eqb}
 use lib.IntN.{ℤ, pos, negsuc}
 use lib.ListN.{length, getD}
 
@@ -24,6 +26,10 @@ module _ (q : ℕ) where
 
   abbrev pub sub : ℕ → ℕ → ℕ
   sub a b = add a (neg b)
+
+  -- a − b, or b − a where `swap` is 1
+  abbrev pub cswapSub : ℕ → ℕ → ℕ → ℕ
+  cswapSub swap a b = cond (eqb swap 0) (sub a b) (sub b a)
 
   -- f 0 + .. + f (n - 1)
   unfoldable pub sum : ℕ → (ℕ → ℕ) → ℕ

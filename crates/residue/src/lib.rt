@@ -3,7 +3,7 @@
 ghost use mathlib.Core.Path.{_≡_};
 ghost use Prim.Native.Nat.{_+_, _^_, _≤_, _<_};
 ghost use lib.IntN.{pos, _-ℤ_, natAbs};
-ghost use Rattle.residue.specs.Residue.{add, sub};
+ghost use Rattle.residue.specs.Residue.{add, sub, cswapSub};
 
 // The type of a modulus, a random word and an arithmetic share.
 pub type Word = u16;
@@ -11,12 +11,14 @@ pub type Word = u16;
 // The type of a sum of two words.
 pub type Wide = u32;
 
-// (a - b) mod q. Bit 31 of the 32-bit difference says whether it fell below zero, and q is added that many times.
-fn wrapping_sub(a: u64, b: u64, q: u64) -> u32
-    requires { ⌜ (b ≤ q) × (a < q + b) × (q < 2 ^ 31) ⌝ }
-    ensures { λ r. ⌜ r ≡ sub q a b ⌝ }
+// (a - b) mod q, or (b - a) mod q where `swap` is 1. That many times the 32-bit difference is negated.
+// Its bit 31 then says whether it is below zero, and q is added that many times.
+fn wrapping_sub(a: u64, b: u64, swap: u64, q: u64) -> u32
+    requires { ⌜ (b + swap ≤ q) × (a < q + b) × (swap < 2) × (q < 2 ^ 31) ⌝ }
+    ensures { λ r. ⌜ r ≡ cswapSub q swap a b ⌝ }
 {
-    let d = (a + 0x100000000 - b) & 0xffffffff;
+    let s = (a + 0x100000000 - b) & 0xffffffff;
+    let d = ((s ^ (swap * 0xffffffff)) + swap) & 0xffffffff;
     ((d + q * (d >> 31)) & 0xffffffff) as u32
 }
 
@@ -25,7 +27,15 @@ pub fn sub(a: Wide, b: Wide, q: Wide) -> Wide
     requires { ⌜ (b ≤ q) × (a < q + b) × (q < 2 ^ 31) ⌝ }
     ensures { λ r. ⌜ r ≡ sub q a b ⌝ }
 {
-    wrapping_sub(a as u64, b as u64, q as u64) as Wide
+    wrapping_sub(a as u64, b as u64, 0, q as u64) as Wide
+}
+
+// (a - b) mod q, or (b - a) mod q where `swap` is 1.
+pub fn cswap_sub(a: Wide, b: Wide, swap: Wide, q: Wide) -> Wide
+    requires { ⌜ (a < q) × (b < q) × (swap < 2) × (q < 2 ^ 31) ⌝ }
+    ensures { λ r. ⌜ r ≡ cswapSub q swap a b ⌝ }
+{
+    wrapping_sub(a as u64, b as u64, swap as u64, q as u64) as Wide
 }
 
 // (a + b) mod q.

@@ -4,8 +4,7 @@ use mathlib.Core.Path.{_≡_, refl, _∙_}
 use Prim.Native.Nat.{_+_, _-_, _≤_, _<_}
 use native.Mathlib.Omega.{arith}
 use lib.ListN.{set}
-use Rattle.residue.specs.Residue.{add, sub}
-use Rattle.residue.specs.Laws.{add-cong, sub-cong, add-lt}
+use Rattle.residue.specs.Laws.{add-cong, add-lt}
 use Rattle.buffers.specs.Positions.{at, after}
 use Rattle.conversion.proofs.Steps.{lessTwice-lt, Turned, turned-none, turned-below, turned-at, turned-past, turned-lt, turned-all}
 use borrow.Author.Needs.{needs}
@@ -22,20 +21,16 @@ abbrev μ-loop : tie.MeasureT-loop
 word : (c : tie.After-widen3 Inv-loop μ-loop) → c .widen3 .result < c .before .before .before .before .before .before .before .before .args .q
 word c = rw (c .widen3 .ensures) (c .before .before .before .before .before .before .before .before .pre .4 .below (c .before .before .before .before .loop .i) (omega arith))
 
--- A(i) − r(i)
-difference : (c : tie.After-sub Inv-loop μ-loop) → c .sub .result ≡ sub (c .before .before .before .before .before .before .before .before .before .before .args .q) (at (c .before .before .before .before .before .before .before .before .before .before .args .t1) (c .before .before .before .before .before .before .loop .i)) (at (c .before .before .before .before .before .before .before .before .before .before .args .words .now) (c .before .before .before .before .before .before .before .before .before .before .args .start + c .before .before .before .before .before .before .loop .i))
-difference c = c .sub .ensures ∙ sub-cong (c .before .before .before .before .before .before .before .before .widen .ensures) (c .before .widen4 .ensures) (c .before .before .widen3 .ensures)
-
 -- a turn before j, at j, and behind it
-below : (c : tie.After-add Inv-loop μ-loop) → Turned (c .before .before .before .before .before .before .before .before .before .before .before .before .args .q) (c .before .before .before .before .before .before .before .before .before .before .before .before .args .j) (c .before .before .before .before .before .before .before .before .before .before .before .before .args .bit) (at (c .before .before .before .before .before .before .before .before .before .before .before .before .args .t1)) (after (c .before .before .before .before .before .before .before .before .before .before .before .before .args .start) (at (c .before .before .before .before .before .before .before .before .before .before .before .before .args .words .now))) (c .before .before .before .before .before .before .before .before .loop .i + 1) (set (c .before .before .before .before .before .before .before .before .loop .c) (c .before .before .before .before .before .before .before .before .loop .i) (c .before .less-twice .result)) (c .add .result)
+below : (c : tie.After-add Inv-loop μ-loop) → Turned (c .before .before .before .before .before .before .before .before .before .before .before .args .q) (c .before .before .before .before .before .before .before .before .before .before .before .args .j) (c .before .before .before .before .before .before .before .before .before .before .before .args .bit) (at (c .before .before .before .before .before .before .before .before .before .before .before .args .t1)) (after (c .before .before .before .before .before .before .before .before .before .before .before .args .start) (at (c .before .before .before .before .before .before .before .before .before .before .before .args .words .now))) (c .before .before .before .before .before .before .before .loop .i + 1) (set (c .before .before .before .before .before .before .before .loop .c) (c .before .before .before .before .before .before .before .loop .i) (c .before .less-twice .result)) (c .add .result)
 below c =
-    turned-below _ _ _ _ _ _ _ _ (c .before .before .before .before .before .before .before .before .loop .inv .1) _ _ (omega arith) (omega arith)
-    (c .before .less-twice .ensures ∙ rw (c .before .before .before .before .before .before .before .before .before .widen2 .ensures, difference (c .before .before)))
-    (c .add .ensures ∙ add-cong (c .before .before .before .before .before .before .before .before .before .before .widen .ensures) refl (c .before .before .before .before .widen3 .ensures))
+    turned-below _ _ _ _ _ _ _ _ (c .before .before .before .before .before .before .before .loop .inv .1) _ _ (omega arith) (omega arith)
+    (c .before .less-twice .ensures ∙ rw (c .before .before .before .before .before .before .before .before .widen2 .ensures, c .before .before .widen4 .ensures, c .before .before .before .widen3 .ensures))
+    (c .add .ensures ∙ add-cong (c .before .before .before .before .before .before .before .before .before .widen .ensures) refl (c .before .before .before .widen3 .ensures))
 
 reached : (c : tie.After-less-twice2 Inv-loop μ-loop) → Turned (c .before .before .before .before .before .before .before .before .args .q) (c .before .before .before .before .before .before .before .before .args .j) (c .before .before .before .before .before .before .before .before .args .bit) (at (c .before .before .before .before .before .before .before .before .args .t1)) (after (c .before .before .before .before .before .before .before .before .args .start) (at (c .before .before .before .before .before .before .before .before .args .words .now))) (c .before .before .before .before .loop .i + 1) (set (c .before .before .before .before .loop .c) (c .before .before .before .before .loop .i) (c .less-twice2 .result)) (c .before .before .before .before .loop .sum)
 reached c =
-    turned-at _ _ _ _ _ _ _ _ (c .before .before .before .before .loop .inv .1) _ (omega arith) (c .before .if2 .taken)
+    turned-at _ _ _ _ _ _ _ _ (c .before .before .before .before .loop .inv .1) _ (omega (arith, c .before .before .before .before .before .before .before .before .pre .2 .large)) (omega arith) (c .before .if2 .taken)
     (c .less-twice2 .ensures ∙ rw (c .before .before .before .before .before .widen2 .ensures))
 
 widen-requires : tie.Need-widen-requires Inv-loop μ-loop
@@ -68,21 +63,12 @@ array-read-widen c = search needs
 widen-requires-4 : tie.Need-widen-requires-4 Inv-loop μ-loop
 widen-requires-4 c κs = search needs
 
-sub-requires : tie.Need-sub-requires Inv-loop μ-loop
-sub-requires c κs =
-    let s = c .before .before .before .before .before .before .before .before .before in
-    let m : c .before .before .before .before .before .before .before .widen .result ≡ s .args .q = c .before .before .before .before .before .before .before .widen .ensures in
-    let r : c .before .widen3 .result < s .args .q = word (c .before) in
-    let v : c .widen4 .result < s .args .q = rw (c .widen4 .ensures) (s .pre .3 (c .before .before .before .before .before .loop .i) (omega arith)) in
-    let h = s .pre .2 .small in
-    (omega arith, omega arith, omega arith)
-
 less-twice-requires : tie.Need-less-twice-requires Inv-loop μ-loop
 less-twice-requires c κs =
-    let s = c .before .before .before .before .before .before .before .before .before .before in
-    let l : c .sub .result < s .args .q = rw (difference c) (add-lt _ (omega (arith, s .pre .2 .large)) _ _) in
-    let b : c .before .before .before .before .before .before .before .widen2 .result ≡ s .args .bit = c .before .before .before .before .before .before .before .widen2 .ensures in
-    (omega arith, omega arith, omega (arith, s .pre .2 .small))
+    let s = c .before .before .before .before .before .before .before .before .before in
+    let v : c .widen4 .result < s .args .q = rw (c .widen4 .ensures) (s .pre .3 (c .before .before .before .before .before .loop .i) (omega arith)) in
+    let b : c .before .before .before .before .before .before .widen2 .result ≡ s .args .bit = c .before .before .before .before .before .before .widen2 .ensures in
+    (omega arith, word (c .before), omega arith, s .pre .2 .small)
 
 mul-c : tie.Need-mul-c Inv-loop μ-loop
 mul-c c = search needs
@@ -92,10 +78,10 @@ array-write-c c = search needs
 
 add-requires : tie.Need-add-requires Inv-loop μ-loop
 add-requires c κs =
-    let s = c .before .before .before .before .before .before .before .before .before .before .before in
-    let m : c .before .before .before .before .before .before .before .before .before .widen .result ≡ s .args .q = c .before .before .before .before .before .before .before .before .before .widen .ensures in
-    let r : c .before .before .before .widen3 .result < s .args .q = word (c .before .before .before) in
-    let l : c .before .before .before .before .before .before .before .loop .sum < s .args .q = turned-lt _ _ _ _ _ _ _ _ (c .before .before .before .before .before .before .before .loop .inv .1) (omega (arith, s .pre .2 .large)) (omega arith) in
+    let s = c .before .before .before .before .before .before .before .before .before .before in
+    let m : c .before .before .before .before .before .before .before .before .widen .result ≡ s .args .q = c .before .before .before .before .before .before .before .before .widen .ensures in
+    let r : c .before .before .widen3 .result < s .args .q = word (c .before .before) in
+    let l : c .before .before .before .before .before .before .loop .sum < s .args .q = turned-lt _ _ _ _ _ _ _ _ (c .before .before .before .before .before .before .loop .inv .1) (omega (arith, s .pre .2 .large)) (omega arith) in
     (omega arith, omega arith, omega (arith, s .pre .2 .small))
 
 less-twice-requires-2 : tie.Need-less-twice-requires-2 Inv-loop μ-loop
@@ -103,7 +89,7 @@ less-twice-requires-2 c κs =
     let s = c .before .before .before .before .before .before .before in
     let l : c .before .before .before .loop .sum < s .args .q = turned-lt _ _ _ _ _ _ _ _ (c .before .before .before .loop .inv .1) (omega (arith, s .pre .2 .large)) (omega arith) in
     let b : c .before .before .before .before .widen2 .result ≡ s .args .bit = c .before .before .before .before .widen2 .ensures in
-    (omega arith, omega arith, omega (arith, s .pre .2 .small))
+    (l, omega (arith, s .pre .2 .large), omega arith, s .pre .2 .small)
 
 mul-c-2 : tie.Need-mul-c-2 Inv-loop μ-loop
 mul-c-2 c = search needs
@@ -121,7 +107,7 @@ loop-again : tie.Need-loop-again Inv-loop μ-loop
 loop-again c = (
   omega arith,
   ⊎-elim
-      (λ w. rw (w .7, w .8) (below record { before = record { before = record { before = record { before = record { before = record { before = record { before = c .before; if1 = w .0 }; shared-slice-known2 = w .1 }; widen3 = w .2 }; widen4 = w .3 }; sub = w .4 }; less-twice = w .5 }; add = w .6 }))
+      (λ w. rw (w .6, w .7) (below record { before = record { before = record { before = record { before = record { before = record { before = c .before; if1 = w .0 }; shared-slice-known2 = w .1 }; widen3 = w .2 }; widen4 = w .3 }; less-twice = w .4 }; add = w .5 }))
       (⊎-elim
       (λ w. rw (w .3, w .4) (reached record { before = record { before = record { before = c .before; if1 = w .0 }; if2 = w .1 }; less-twice2 = w .2 }))
       (λ w. rw (w .2, w .3) (turned-past _ _ _ _ _ _ _ _ (c .before .before .loop .inv .1) (omega (arith, w .0 .left, w .1 .left)))))
@@ -171,7 +157,6 @@ xor-share-spec =
     mul-widen-2
     array-read-widen
     widen-requires-4
-    sub-requires
     less-twice-requires
     mul-c
     array-write-c

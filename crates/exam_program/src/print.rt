@@ -1,5 +1,4 @@
 // Fields of a line, each with a space before it.
-use checks::Answer;
 use checks::Refusal;
 use libc::STDOUT_FILENO;
 use residue::Word;
@@ -12,14 +11,38 @@ pub fn line() {
     text(b"\n");
 }
 
+pub fn decimal(x: usize) {
+    io::print_decimal(STDOUT_FILENO, x as u64);
+}
+
 pub fn number(x: usize) {
     text(b" ");
-    io::print_decimal(STDOUT_FILENO, x as u64);
+    decimal(x);
 }
 
 pub fn field(name: &[u8], x: usize) {
     text(name);
     number(x);
+}
+
+// How a line begins that has a call with n and k.
+pub fn call(letter: u8, name: &[u8], n: usize, k: usize) {
+    text(&[letter]);
+    text(name);
+    field(b" n", n);
+    field(b" k", k);
+}
+
+pub fn modulus(q: Word) {
+    field(b" q", residue::to_usize(q));
+}
+
+pub fn residue(r: Word) {
+    field(b" residue", residue::to_usize(r));
+}
+
+pub fn gives(count: usize) {
+    field(b" gives", count);
 }
 
 pub fn shares(name: &[u8], list: &[u16]) {
@@ -36,26 +59,17 @@ pub fn words(name: &[u8], list: &[Word]) {
     }
 }
 
-pub fn gives(x: usize) {
-    field(b" gives", x);
-}
-
-pub fn gives_signed(z: i32) {
-    text(b" gives ");
+pub fn signed(name: &[u8], z: i32) {
+    text(name);
     if z < 0 {
-        text(b"-");
+        text(b" -");
+    } else {
+        text(b" ");
     }
-    io::print_decimal(STDOUT_FILENO, residue::magnitude(z) as u64);
+    decimal(residue::magnitude(z) as usize);
 }
 
 pub fn refused(r: Refusal) {
     field(b" refused", r.code as usize);
     number(r.position);
-}
-
-pub fn counted(answer: Answer) {
-    match answer {
-        Answer::Done(count) => gives(count),
-        Answer::Refused(r) => refused(r),
-    }
 }

@@ -4,8 +4,8 @@ use Prim.Native.Nat.{_-_, _≤_}
 use native.Mathlib.Omega.{arith}
 use lib.ListN.{length}
 use borrow.Author.Needs.{needs}
-use Rattle.demo.proofs.print.shares.Statement.{statement}
-use Rattle.demo.proofs.print.shares.Tie as tie
+use Rattle.exam_program.proofs.print.shares.Statement.{statement}
+use Rattle.exam_program.proofs.print.shares.Tie as tie
 
 abbrev Inv-loop : tie.InvT-loop
 Inv-loop name list i₀ i-end i = (i ≤ i-end) × (i-end ≡ length list)

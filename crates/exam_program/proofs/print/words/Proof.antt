@@ -3,8 +3,8 @@ use mathlib.Core.Path.{_≡_}
 use Prim.Native.Nat.{_-_, _≤_}
 use lib.ListN.{length}
 use borrow.Author.Needs.{needs}
-use Rattle.demo.proofs.print.words.Statement.{statement}
-use Rattle.demo.proofs.print.words.Tie as tie
+use Rattle.exam_program.proofs.print.words.Statement.{statement}
+use Rattle.exam_program.proofs.print.words.Tie as tie
 
 abbrev Inv-loop : tie.InvT-loop
 Inv-loop name list i₀ i-end i = (i ≤ i-end) × (i-end ≡ length list)
