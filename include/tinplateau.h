@@ -1,11 +1,10 @@
-/* Tinplateau: masked binomial sampling. What each function answers is proved about its code; "document 01" and its numbers are explained
- * in docs/CONTRACTS.md.
+/* Tinplateau: masked binomial sampling. What each function answers is proved about its code (docs/CONTRACTS.md).
  *
- * Every call answers a code: 0 where it is accepted, else document 01's number of the first check that failed, with the position of what is
- * unfit, counted from 0, or 0. A refused call changes nothing.
+ * Every call answers a code: 0 where it is accepted, else document 01's number of the first check that failed. With it goes the position of
+ * what is unfit, counted from 0, where a position is named below, and else 0. A refused call changes nothing.
  *
- * A list is a pointer and its number of elements; with 0 elements the pointer is not used. The caller sees to it that a list is readable
- * for that many elements, that a list which is not const is writable, and that it overlaps no other list of the call.
+ * A list is a pointer and its number of elements; with 0 elements the pointer is not used. The caller sees to it that each list is there,
+ * and that one which is not const may be written and overlaps no other list of the call.
  *
  * n is the number of shares, 2 to 8; k the number of bits in a string, 1 to 16; q the modulus. A random word is below q, and is used for one
  * call only. The library makes no random numbers. */
@@ -19,7 +18,7 @@
 extern "C" {
 #endif
 
-/* Code 0: accepted, with a count. Else document 01's number, and the position. */
+/* Code 0: accepted, and the value is a count. Else document 01's number, and the value is the position. */
 typedef struct {
     uint32_t code;
     size_t value;
@@ -54,7 +53,7 @@ typedef struct {
     int32_t value;
 } tp_signed;
 
-/* Where the code is not 0, k and q are 0. */
+/* Where the code is not 0, k and q are 0. Its one refusal has position 0. */
 typedef struct {
     uint32_t code;
     size_t k;
