@@ -8,6 +8,8 @@ use masking::SignedAnswer;
 use masking::StringAnswer;
 use residue::Word;
 ghost use mathlib.Core.Path.{_≡_};
+ghost use Prim.Native.Nat.{_≤_};
+ghost use lib.ListN.{length, take};
 ghost use Rattle.checks.specs.Answers.{answerReading};
 ghost use Rattle.masking.specs.Answers.{signedReading};
 ghost use Rattle.masking.specs.Sharing.{masked, openedString, openedResidue};
@@ -192,6 +194,17 @@ pub extern "C" fn tp_convert_bit(
     answer(conversion::convert_bit(n, q, bits, words, out))
 }
 
+// How many words are lent to the sampler: no sample takes more than 1,792. A length that was worked out is passed on faster than one that is
+// copied together with its address.
+fn words_lent(words: &[Word]) -> usize
+    ensures { λ r. ⌜ (r ≤ length (now (words .entry))) × (take 1792 (take r (now (words .entry))) ≡ take 1792 (now (words .entry))) ⌝ }
+{
+    if lesson_file::MOST_WORDS < words.len() {
+        return lesson_file::MOST_WORDS;
+    }
+    words.len()
+}
+
 #[no_mangle]
 pub extern "C" fn tp_sample(
     n: usize,
@@ -206,7 +219,8 @@ pub extern "C" fn tp_sample(
     ensures { λ r. ⌜ returned r (both (now (out .exit)) (now (work .exit))) ≡ answered (sampled n k q (now (x .entry)) (now (y .entry)) (now (words .entry)) (now (out .entry)) (now (work .entry))) ⌝ }
     ensures secrecy { λ _. ⌜ Secrecy n k q ⌝ }
 {
-    answer(sampler::sample(n, k, q, x, y, words, out, work))
+    let lent = words_lent(words);
+    answer(sampler::sample(n, k, q, x, y, &words[..lent], out, work))
 }
 
 // The output and the work area of the samples are the call's own.

@@ -237,6 +237,10 @@ settled-refused (refused c p) before after e = (sym (ap (λ o. o .answer) e), ap
 pub settled-accepted : {A B : Type 0} (a : A) (cs : List Check) (before after : B) → Hold cs → settled (verdict cs a) before after ≡ record { answer = accepted a; buffers = after }
 settled-accepted {A} a cs before after h = ap (λ (v : Verdict A). settled v before after) (accepts a cs h)
 
+-- a call that its first checks refuse leaves everything as it was, whatever the checks behind and what it would write
+pub settled-refuses : {A B : Type 0} (a : A) (cs ds : List Check) (before after : B) (code position : ℕ) → checked cs ≡ refused code position → settled (verdict (cs ++ ds) a) before after ≡ record { answer = refused code position; buffers = before }
+settled-refuses {A} a cs ds before after code position e = ap (λ (v : Verdict A). settled v before after) (refuses tt a code position cs ds e)
+
 -- what an accepted call keeps, every call keeps
 pub settled-keeps : {A B C : Type 0} (v : Verdict A) (before after : B) (view : B → C) → view after ≡ view before → view (settled v before after .buffers) ≡ view before
 settled-keeps (accepted a) before after view e = e

@@ -67,6 +67,7 @@ fn one_share(bit: Word) -> [Word; 8]
 }
 
 // Steps 1 and 2: the list for the first j shares of bit t, two or more. One share is no call of its own.
+// `&words[..]`: the words' address and length are then copied one by one, as they were stored, which is faster than both at once.
 fn convert(
     shares: &[u16; 8],
     t: usize,
@@ -82,7 +83,7 @@ fn convert(
     let a = if k == 1 {
         one_share(bit(shares[0], t))
     } else {
-        convert(shares, t, k, q, words, start)
+        convert(shares, t, k, q, &words[..], start)
     };
     xor_share(a, k, bit(shares[k], t), q, words, start + k * (k - 1) / 2)
 }
@@ -129,7 +130,7 @@ fn convert_at(
     requires { ⌜ (2 ≤ n) × (n ≤ 8) × (t < 16) × Modulus q × Drawn q start (bitWords n) (now words) × (to + n ≤ length (now out)) ⌝ }
     ensures { λ _. ⌜ now (out .exit) ≡ overwrite (now (out .entry)) to (table n (convertBit q n (bitsAt (at (now (shares .entry))) t) (after start (at (now (words .entry)))))) ⌝ }
 {
-    let a = convert(shares, t, n, q, words, start);
+    let a = convert(shares, t, n, q, &words[..], start);
     refresh(a, n, q, words, start + n * (n - 1) / 2, out, to);
 }
 

@@ -17,15 +17,15 @@ use Rattle.sampler.specs.Secrecy.{Room}
 -- the numbers that the code computes are small
 pub record Small (n k : ℕ) : Type 0 where
   pub bits : 2 * k ≤ 32
-  pub per : bitWords n ≤ 64
-  pub words : sampleWords n k ≤ 2048
+  pub per : bitWords n ≤ 56
+  pub words : sampleWords n k ≤ 1792
   pub rows : workLength n k ≤ 256
 
 pub small : (n k : ℕ) → n ≤ 8 → k ≤ 16 → Small n k
 small n k h l =
     let b : 2 * k ≤ 32 = omega arith in
-    let m : n - 1 ≤ 8 = omega arith in
-    let p : bitWords n ≤ 64 = N.mul-le-mul h m in
+    let m : n - 1 ≤ 7 = omega arith in
+    let p : bitWords n ≤ 56 = N.mul-le-mul h m in
     record { bits = b; per = p; words = N.mul-le-mul b p; rows = N.mul-le-mul b h }
 
 -- two strings of k bits, each in n shares

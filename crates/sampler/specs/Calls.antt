@@ -1,10 +1,10 @@
 -- What holds of every call.
-use mathlib.Core.Path.{_≡_, sym, ap, ap₂, _∙_}
+use mathlib.Core.Path.{_≡_, refl, sym, ap, ap₂, _∙_}
 use mathlib.Core.List.{List, _++_}
 use Prim.Native.Nat.{ℕ, _<_}
 use native.Mathlib.Omega.{arith}
 use lib.ListN.{length, take, drop, replicate, length-replicate}
-use lib.Seq.{getD-take}
+use lib.Seq.{getD-take, take-take}
 use Rattle.residue.specs.Residue.{reduce, reduceℤ, total, EachBelow}
 use Rattle.residue.specs.Integers.{reduceℤ-minus}
 use Rattle.residue.specs.Sum.{sum-cong, sum-list}
@@ -12,14 +12,14 @@ use Rattle.buffers.specs.Overwrite.{overwrite}
 use Rattle.buffers.specs.Laws.{take-front, drop-front, front-below}
 use Rattle.buffers.specs.Positions.{at}
 use Rattle.buffers.specs.PositionLaws.{length-table, table-at, table-below, table-same}
-use Rattle.checks.specs.Checks.{Check, Outcome, Verdict, accepted, verdict, settled}
-use Rattle.checks.specs.Laws.{Hold, accepted-holds, settled-accepted, settled-answer, settled-keeps, settled-same, words-front}
+use Rattle.checks.specs.Checks.{Check, Outcome, Verdict, accepted, refused, verdict, checked, settled}
+use Rattle.checks.specs.Laws.{Hold, accepted-holds, settled-accepted, settled-answer, settled-keeps, settled-refuses, settled-same, words-front}
 use Rattle.masking.specs.Sharing.{xorAll}
 use Rattle.masking.specs.Signed.{weight, differenceOfWeights}
-use Rattle.sampler.specs.Sampler.{Buffers, both, sampleShare, sampleShares, sampleWords, workLength, pairChecks, roomChecks, sampleChecks, buffersAfter, sampled}
+use Rattle.sampler.specs.Sampler.{Buffers, both, sampleShare, sampleShares, sampleWords, workLength, pairChecks, roomChecks, bufferChecks, sampleChecks, buffersAfter, sampled}
 use Rattle.sampler.specs.Secrecy.{Samples}
 use Rattle.sampler.specs.Laws.{share-lt, share-local, share-sum}
-use Rattle.sampler.specs.Accepted.{SharedPair, pair-large, call-pair}
+use Rattle.sampler.specs.Accepted.{SharedPair, small, shared-pair, pair-large, call-pair}
 
 pub length-shares : (n k q : ℕ) (x y words : List ℕ) → length (sampleShares n k q x y words) ≡ n
 unfolding sampleShares
@@ -110,6 +110,21 @@ module _ (n k q : ℕ) (x y words out work : List ℕ) where
       settled-same (decided (length out) (length work)) (both out work) (buffersAfter n k q x y words out work) (buffersAfter n k q x y words′ out work)
       (λ a p. ap (λ (s : List ℕ). both (overwrite out 0 s) (overwrite work 0 (replicate (workLength n k) 0))) (shares-words (call-pair n k q x y words out work (accepted-holds _ a _ p)) words words′ e))
       ∙ ap (λ (cs : List Check). settled (verdict (pairChecks n k q x y ++ (cs ++ roomChecks n k (length out) (length work))) (sampleWords n k)) (both out work) (buffersAfter n k q x y words′ out work)) (words-front (sampleWords n k) q words words′ e)
+
+  -- nor on words behind the first 1,792, whatever n and k are
+  pub words-most : (words′ : List ℕ) → take 1792 words ≡ take 1792 words′ → sampled n k q x y words out work ≡ sampled n k q x y words′ out work
+  unfolding sampled
+  words-most words′ d = go (checked (pairChecks n k q x y)) refl
+    where
+      go : (v : Verdict Unit) → checked (pairChecks n k q x y) ≡ v → sampled n k q x y words out work ≡ sampled n k q x y words′ out work
+      go (accepted u) e =
+          let P = shared-pair n k q x y (accepted-holds tt u (pairChecks n k q x y) e) in
+          let few = small n k (P .eight) (P .sixteen) .words in
+          words-behind words′ (sym (take-take (sampleWords n k) 1792 words few) ∙ ap (λ (l : List ℕ). take (sampleWords n k) l) d ∙ take-take (sampleWords n k) 1792 words′ few)
+      go (refused code position) e = refuses-with words ∙ sym (refuses-with words′)
+        where
+          refuses-with : (ws : List ℕ) → sampled n k q x y ws out work ≡ record { answer = refused code position; buffers = both out work }
+          refuses-with ws = settled-refuses (sampleWords n k) (pairChecks n k q x y) (bufferChecks n k q ws (length out) (length work)) (both out work) (buffersAfter n k q x y ws out work) code position e
 
   module _ (out′ work′ : List ℕ) where
     -- the answer depends on the lengths of output and work area, not on what they held
