@@ -6,8 +6,8 @@
  * A list is a pointer and its number of elements; with 0 elements the pointer is not used. The caller sees to it that each list is there,
  * and that one which is not const may be written and overlaps no other list of the call.
  *
- * n is the number of shares, 2 to 8; k the number of bits in a string, 1 to 16; q the modulus. A random word is below q, and is used for one
- * call only. The library makes no random numbers. */
+ * n is the number of shares, 2 to 8; k the number of bits in a string, 1 to 16; q the modulus. A random word is below q, drawn evenly and
+ * apart from all others, and used once. The library makes no random numbers. */
 #ifndef TINPLATEAU_H
 #define TINPLATEAU_H
 
@@ -85,14 +85,15 @@ tp_signed tp_weight_difference(size_t k, tp_string x, tp_string y);
  * Refuses 22 (another number). Writes nothing. */
 tp_parameters tp_parameter_set(size_t number);
 
-/* Converts a shared bit to n shares modulo q, with the first n(n - 1) words. Answers n(n - 1). No n - 1 of the shares tell anything of the bit.
- * Refuses 1 (n); 3 (q below 3); 4 (not n bits); 6 (a share that is not 0 or 1, with its position); 8 (fewer than n(n - 1) words); 9 (one
+/* Converts a shared bit to n shares modulo q, with the first n(n - 1) words. Answers n(n - 1). With words drawn so, no n - 1 of the
+ * shares tell anything of the bit.
+ * Refuses 1 (n); 3 (q below 3); 4 (not n shares); 6 (a share that is not 0 or 1, with its position); 8 (fewer than n(n - 1) words); 9 (one
  * of these not below q, with its position); 10 (fewer than n output words). Words and output words past those are neither read nor written. */
 tp_answer tp_convert_bit(size_t n, uint16_t q, const uint16_t *bits, size_t bits_len, const uint16_t *words, size_t words_len, uint16_t *out,
                          size_t out_len);
 
-/* Samples: n shares modulo q of the weight of x less the weight of y, with the first W = 2kn(n - 1) words. Answers W. No n - 1 of the shares
- * tell anything of x and y. The first 2kn words of the work area are 0 afterwards.
+/* Samples: n shares modulo q of the weight of x less the weight of y, with the first W = 2kn(n - 1) words. Answers W. With words drawn so,
+ * no n - 1 of the shares tell anything of x and y. The first 2kn words of the work area are 0 afterwards.
  * Refuses 1 (n); 2 (k); 3 (q below 2k + 1); 4 (not n shares of x); 5 (of y); 6 (a share of x of more than k bits, with its position); 7 (of y);
  * 8 (fewer than W words); 9 (one of these not below q, with its position); 10 (fewer than n output words); 11 (fewer than 2kn words in the
  * work area). Words, output words and work words past those are neither read nor written. */
@@ -100,7 +101,8 @@ tp_answer tp_sample(size_t n, size_t k, uint16_t q, const uint16_t *x, size_t x_
                     size_t words_len, uint16_t *out, size_t out_len, uint16_t *work, size_t work_len);
 
 /* Writes the text of a lesson file, as the lesson program prints it, in front of the text buffer. Answers its length in bytes. What is
- * wrong with the file is said in the text. The words of each sample fill the word buffer from the front.
+ * wrong with the file is said in the text. The words of each sample whose records are whole, also of one that is then refused, fill the word
+ * buffer from the front; words past them keep their content.
  * Refuses 8 (a word buffer of fewer than 1,792 words); 10 (a text buffer of fewer than 3 * file_len + 45 bytes, or of 45 for a file of more
  * than 60,000 bytes). Text bytes past the text keep their content. */
 tp_answer tp_lesson_text(const uint8_t *file, size_t file_len, uint16_t *words, size_t words_len, uint8_t *text, size_t text_len);

@@ -47,21 +47,21 @@ fn counts(make: Maker, q: u16, n: usize, bits: &[u16]) -> Vec<Vec<usize>> {
     }
 }
 
-/// Whether the counts are the same for every input, which is so many bits of n shares each.
+/// Whether every value occurs equally often for every input, which is so many bits of n shares each.
 fn is_even(name: &str, make: Maker, bits: usize, n: usize, q: u16) -> bool {
     let mut input = vec![0; bits * n];
-    let first = counts(make, q, n, &input);
-    while advance(&mut input, 2) {
-        let other = counts(make, q, n, &input);
-        if other != first {
-            eprintln!("{name} n {n} q {q}: {first:?} for zeros, {other:?} for {input:?}");
+    let each = (q as usize).pow((input.len() * (n - 1) - (n - 1)) as u32);
+    loop {
+        let found = counts(make, q, n, &input);
+        if found.iter().flatten().any(|count| *count != each) {
+            eprintln!("{name} n {n} q {q}, input {input:?}: {found:?}, and not {each} each");
             return false;
         }
+        if !advance(&mut input, 2) {
+            break;
+        }
     }
-    for (left_out, counts) in first.iter().enumerate() {
-        let shown: Vec<String> = counts.iter().map(usize::to_string).collect();
-        println!("  {name} n {n} q {q}, share {} left out: {} for each of {} inputs", left_out + 1, shown.join(" "), 1 << input.len());
-    }
+    println!("  {name} n {n} q {q}: {each} times each, whichever share is left out, for each of {} inputs", 1 << input.len());
     true
 }
 

@@ -181,7 +181,7 @@ fn all_below(words: &[Word], count: usize, q: Word) -> bool
     below
 }
 
-// Checks 8 and 9 of a call that takes `per` words for each of its bits. A word that is not below q is searched for only where one pass says that there is one.
+// Checks 8 and 9 of a call that takes `per` words for each of its bits.
 pub fn check_words(words: &[Word], bits: usize, per: usize, q: Word) -> Checked
     requires { ⌜ bits * per ≤ 2 ^ 32 ⌝ }
     ensures { λ r. ⌜ checkedReading r ≡ checked (wordChecks (bits * per) q (now (words .entry))) ⌝ }

@@ -36,7 +36,7 @@ resultOf (mask n k value masks out) = output (masked n k value masks out)
 resultOf (openResidue n q shares) = residue (openedResidue n q shares)
 resultOf (centre q r) = integer (centred q r)
 
--- a call, and what the page gives for it
+-- a call, and what the page gives for it, with what follows for the rest of the outcome
 pub record Value : Type 0 where
   pub call : Call
   pub given : Result
