@@ -194,13 +194,13 @@ pub extern "C" fn tp_convert_bit(
     answer(conversion::convert_bit(n, q, bits, words, out))
 }
 
-// How many words are lent to the sampler: no sample takes more than 1,792. A length that was worked out is passed on faster than one that is
-// copied together with its address.
+// How many words are lent to the sampler: all that it may take. A length that was worked out is passed on faster than one that is copied
+// together with its address.
 fn words_lent(words: &[Word]) -> usize
     ensures { λ r. ⌜ (r ≤ length (now (words .entry))) × (take 1792 (take r (now (words .entry))) ≡ take 1792 (now (words .entry))) ⌝ }
 {
-    if lesson_file::MOST_WORDS < words.len() {
-        return lesson_file::MOST_WORDS;
+    if sampler::MOST_WORDS < words.len() {
+        return sampler::MOST_WORDS;
     }
     words.len()
 }

@@ -17,6 +17,9 @@ ghost use Rattle.sampler.specs.Sampler.{sampleWords, sampleShares, workL
 ghost use Rattle.sampler.specs.Columns.{columnShare};
 ghost use Rattle.sampler.specs.Secrecy.{Secrecy};
 
+// The most words that a sample takes: 2kn(n - 1) where n = 8 and k = 16.
+pub const MOST_WORDS: usize = 1792;
+
 // Output share i: the sum of column i over the k rows of x, less that over the k rows of y behind them.
 fn sum_column(work: &[Word], n: usize, k: usize, q: Word, i: usize) -> Word
     requires { ⌜ (i < n) × Modulus q × Drawn q 0 (workLength n k) (now work) ⌝ }
