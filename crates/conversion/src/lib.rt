@@ -137,7 +137,7 @@ fn convert_at(
 // The n shares, in front of an array. Eight turns, so that they are single stores and no call.
 fn gather(shares: &[u16], n: usize, array: &mut [u16])
     requires { ⌜ (n ≤ 8) × (length (now shares) ≡ n) × (length (now array) ≡ 8) ⌝ }
-    ensures { λ _. ⌜ (length (now (array .exit)) ≡ 8) × Same n (at (now (array .exit))) (at (now (shares .entry))) ⌝ }
+    ensures { λ _. ⌜ Same n (at (now (array .exit))) (at (now (shares .entry))) ⌝ }
 {
     for i in 0..8 {
         if i < n {

@@ -75,7 +75,7 @@ loop-again : tie.Need-loop-again Inv-loop μ-loop
 loop-again c = let s = c .before .before .before .before .before .before .before .before .before .before .before .before .before in
     let l = c .before .before .before .before .before .before .loop in
     let g = c .before .before .before .before .before .before .before .before .gather in
-    let e = row-done _ _ (l .t) (s .args .shares .now) (g .last .1 .1 .0) (s .pre .3 .large) (g .ensures .1) (s .args .start) _ (s .args .words .now) refl in
+    let e = row-done _ _ (l .t) (s .args .shares .now) (g .last .1 .1 .0) (s .pre .3 .large) (g .ensures) (s .args .start) _ (s .args .words .now) refl in
     (omega arith, c .before .before .convert-at .ensures ∙ rows-next _ _ _ _ _ _ _ (l .inv .1) e)
 
 same-length : tie.Need-same-length Inv-loop μ-loop

@@ -52,7 +52,7 @@ same-length : tie.Need-same-length Inv-loop μ-loop
 same-length c = search needs
 
 returns : tie.Need-returns Inv-loop μ-loop
-returns c = (c .before .loop .inv .1, λ t l. c .before .loop .inv .2 t (omega arith) l)
+returns c t l = c .before .loop .inv .2 t (omega arith) l
 
 pub gather-spec : {M : Type 1} → statement M
 gather-spec =
