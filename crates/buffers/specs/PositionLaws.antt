@@ -2,15 +2,17 @@
 use mathlib.Core.Path.{_≡_, refl, sym, ap, _∙_, fun-ext}
 use mathlib.Core.List.{List, [], _∷_, _++_}
 use mathlib.Core.Logic.{_≢_}
-use Prim.Native.Nat.{ℕ, zero, suc, suc-le-suc, _+_, _≤_, _<_}
+use Prim.Native.Nat.{ℕ, zero, suc, suc-le-suc, _+_, _-_, _≤_, _<_}
 use native.Mathlib.Nat as N
 use native.Mathlib.Nat.{suc-inj, suc-ne-zero, not-suc-le-zero, le-of-suc-le-suc}
 use native.Mathlib.Decide.{decLt, ℕ-discrete}
 use native.Mathlib.Omega.{arith}
 use borrow.Author.Tests.{lt-ltb, le-ltb}
-use lib.ListN.{length, set, List·getD-eq-default}
-use lib.Seq.{getD-set-same, getD-set-other}
+use lib.ListN.{length, set, take, drop, length-drop, List·getD-eq-default}
+use lib.Seq.{getD-set-same, getD-set-other, getD-drop, take-all}
 use Rattle.residue.specs.Residue.{EachBelow}
+use Rattle.buffers.specs.Overwrite.{overwrite}
+use Rattle.buffers.specs.Laws.{front-below}
 use Rattle.buffers.specs.Positions.{at, table, after, join, Same, Below}
 
 pub after-zero : (f : ℕ → ℕ) → after 0 f ≡ f
@@ -18,6 +20,12 @@ after-zero f = fun-ext (λ i. ap f (N.zero-add i))
 
 pub after-after : (m n : ℕ) (f : ℕ → ℕ) → after n (after m f) ≡ after (m + n) f
 after-after m n f = fun-ext (λ i. ap f (omega arith))
+
+-- the part of a list from position n on
+pub part-after : (n : ℕ) (l : List ℕ) → at (take (length l - n) (drop n l)) ≡ after n (at l)
+part-after n l =
+    let e : take (length l - n) (drop n l) ≡ drop n l = take-all (length l - n) (drop n l) (omega (arith, length-drop n l)) in
+    fun-ext (λ i. ap (λ (p : List ℕ). at p i) e ∙ getD-drop n l i 0)
 
 module _ (n : ℕ) (f g : ℕ → ℕ) where
   pub join-below : (j : ℕ) → j < n → join n f g j ≡ f j
@@ -83,3 +91,9 @@ set-agrees l i v f h e j a = go (ℕ-discrete j i)
     go : Dec (j ≡ i) → at (set l i v) j ≡ f j
     go (yes d) = rw d (getD-set-same l i v 0 h ∙ e)
     go (no d) = getD-set-other l i j v 0 d ∙ a d
+
+-- ---- the front of a list
+
+-- a list that stands in front of another, none of it cut off
+pub front-same : (l s : List ℕ) (n : ℕ) → length s ≤ n → Same (length s) (at (overwrite l 0 (take n s))) (at s)
+front-same l s n h i m = ap (λ (r : List ℕ). at (overwrite l 0 r) i) (take-all n s h) ∙ front-below l s i m

@@ -1,5 +1,5 @@
 -- A search over the bits and, within a bit, over its words is one over the words in their order: word i of bit b has position b * per + i.
-use mathlib.Core.Path.{_≡_, ap, subst}
+use mathlib.Core.Path.{_≡_, ap}
 use mathlib.Core.List.{List}
 use mathlib.Core.Option.{none, some}
 use Prim.Native.Nat.{ℕ, _+_, _*_, _<_, _≤_}
@@ -9,7 +9,7 @@ use lib.Arith.{digits-lt}
 use lib.ListN.{length, getD, take}
 use lib.Seq.{getD-take, length-take-le}
 use Rattle.checks.specs.Search.{firstNotBelow}
-use Rattle.checks.specs.Laws.{Searched, search-begins, search-passes, search-finds, search-ends}
+use Rattle.checks.specs.Laws.{Searched, search-passes, search-finds, search-ends}
 
 module _ (q bits per : ℕ) (words : List ℕ) (room : bits * per ≤ length words) where
   abbrev pub judged : List ℕ
@@ -18,34 +18,27 @@ module _ (q bits per : ℕ) (words : List ℕ) (room : bits * per ≤ length wor
   count : length judged ≡ bits * per
   count = length-take-le (bits * per) words room
 
-  -- the search came as far as word i of bit b
-  abbrev pub At : ℕ → ℕ → Type 0
-  At b i = Searched q judged (b * per + i)
+  module _ (b i p : ℕ) (h : b < bits) (l : i < per) (e : p ≡ b * per + i) where
+    before : p < bits * per
+    before = omega (arith, digits-lt h l)
 
-  at-position : (i j : ℕ) → i ≡ j → Searched q judged i → Searched q judged j
-  at-position i j e = subst (Searched q judged) e
+    pub inside : p < length words
+    inside = omega (arith, before)
 
-  pub begins : At 0 0
-  begins = at-position 0 (0 * per + 0) (omega (arith, N.zero-mul per)) (search-begins q judged)
+    here : p < length judged
+    here = omega (arith, count, before)
 
-  pub inside : (b i : ℕ) → b < bits → i < per → b * per + i < length words
-  inside b i h l = omega (arith, digits-lt h l)
+    judged-at : getD judged p 0 ≡ getD words p 0
+    judged-at = getD-take (bits * per) words p 0 before
 
-  module _ (b i : ℕ) (h : b < bits) (l : i < per) where
-    judged-at : getD judged (b * per + i) 0 ≡ getD words (b * per + i) 0
-    judged-at = getD-take (bits * per) words (b * per + i) 0 (digits-lt h l)
+    pub passes : getD words p 0 < q → Searched q judged p → Searched q judged (p + 1)
+    passes s = search-passes q judged p here (rw judged-at s)
 
-    here : b * per + i < length judged
-    here = omega (arith, count, digits-lt h l)
+    pub finds : q ≤ getD words p 0 → Searched q judged p → firstNotBelow q judged ≡ some p
+    finds s = search-finds q judged p here (rw judged-at s)
 
-    pub passes : getD words (b * per + i) 0 < q → At b i → At b (i + 1)
-    passes s e = at-position (b * per + i + 1) (b * per + (i + 1)) (omega arith) (search-passes q judged (b * per + i) here (rw judged-at s) e)
+  pub row-ends : (b i p : ℕ) → i ≤ per → per ≤ i → p ≡ b * per + i → p ≡ (b + 1) * per
+  row-ends b i p h g e = omega (arith, N.add-mul b 1 per)
 
-    pub finds : q ≤ getD words (b * per + i) 0 → At b i → firstNotBelow q judged ≡ some (b * per + i)
-    finds s e = search-finds q judged (b * per + i) here (rw judged-at s) e
-
-  pub row-ends : (b i : ℕ) → i ≤ per → per ≤ i → At b i → At (b + 1) 0
-  row-ends b i h g = at-position (b * per + i) ((b + 1) * per + 0) (omega (arith, N.add-mul b 1 per))
-
-  pub ends : (b : ℕ) → b ≤ bits → bits ≤ b → At b 0 → firstNotBelow q judged ≡ none
-  ends b h g e = search-ends q judged (b * per + 0) (omega (arith, count, ap (λ (m : ℕ). m * per) (N.le-antisymm h g))) e
+  pub ends : (b p : ℕ) → b ≤ bits → bits ≤ b → p ≡ b * per → Searched q judged p → firstNotBelow q judged ≡ none
+  ends b p h g e = search-ends q judged p (omega (arith, count, ap (λ (m : ℕ). m * per) (N.le-antisymm h g)))

@@ -63,20 +63,6 @@ module _ (limit : ℕ) where
   each-below-none [] s h = refl
   each-below-none (x ∷ l) s h = rw (lt-ltb x limit (h 0 (omega arith))) (each-below-none l (suc s) (λ i m. h (suc i) (suc-le-suc m)))
 
-  -- one element more
-  pub none-more : (l : List ℕ) (s x : ℕ) → isNone (firstFrom limit s (l ++ (x ∷ []))) ≡ isNone (firstFrom limit s l) && ltb x limit
-  unfolding firstFrom
-  none-more [] s x = go (ltb x limit)
-    where
-      go : (b : Bool) → isNone (cond b none (some s)) ≡ b
-      go true = refl
-      go false = refl
-  none-more (y ∷ l) s x = go (firstFrom limit (suc s) (l ++ (x ∷ []))) (firstFrom limit (suc s) l) (none-more l (suc s) x) (ltb y limit)
-    where
-      go : (m n : Option ℕ) → isNone m ≡ isNone n && ltb x limit → (b : Bool) → isNone (cond b m (some s)) ≡ isNone (cond b n (some s)) && ltb x limit
-      go m n ih true = ih
-      go m n ih false = refl
-
 -- ---- tests of two parts
 
 pub and-true : (s t : Bool) → s && t ≡ true → (s ≡ true) × (t ≡ true)

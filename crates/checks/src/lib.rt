@@ -5,7 +5,7 @@ ghost use Prim.Native.Nat.{_*_, _^_, _≤_};
 ghost use lib.Dec.{ltb};
 ghost use lib.ListN.{length, take};
 ghost use Rattle.checks.specs.Search.{firstNotBelow};
-ghost use Rattle.checks.specs.Checks.{refused, checked, within, isNone, parameterChecks, wordChecks};
+ghost use Rattle.checks.specs.Checks.{refused, checked, within, parameterChecks, wordChecks};
 ghost use Rattle.checks.specs.Answers.{foundReading, checkedReading};
 
 // Document 01's number for a refused call, and the position (its 'place') of what is unfit.
@@ -130,17 +130,16 @@ pub fn check_parameters(n: usize, k: usize, q: Word) -> Checked
     Checked::Passed
 }
 
-// No bit at k or above.
+// No bit at k or above. A word has sixteen bits, so a k of 16 or more leaves none to judge.
 pub fn is_narrow(value: u16, k: usize) -> bool
-    requires { ⌜ k ≤ 16 ⌝ }
     ensures { λ r. ⌜ r ≡ ltb value (2 ^ k) ⌝ }
 {
-    (value as u32) < (1u32 << k)
+    let width = if k < 16 { k } else { 16 };
+    (value as u32) < (1u32 << width)
 }
 
 // The first share with a bit at k or above.
 pub fn first_wide(shares: &[u16], k: usize) -> Found
-    requires { ⌜ k ≤ 16 ⌝ }
     ensures { λ r. ⌜ foundReading r ≡ firstNotBelow (2 ^ k) (now (shares .entry)) ⌝ }
 {
     for i in 0..shares.len() {
@@ -157,43 +156,27 @@ pub fn first_not_below(words: &[Word], bits: usize, per: usize, q: Word) -> Foun
     ensures { λ r. ⌜ foundReading r ≡ firstNotBelow q (take (bits * per) (now (words .entry))) ⌝ }
 {
     let mut found = Found::Nothing;
+    let mut at = 0;
     'bits: for b in 0..bits {
         for i in 0..per {
-            let at = b * per + i;
             if words[at] >= q {
                 found = Found::At(at);
                 break 'bits;
             }
+            at += 1;
         }
     }
     found
 }
 
-// The first `count` words are all below q. This pass is never left early, so that the compiler can compare several words at once.
-fn all_below(words: &[Word], count: usize, q: Word) -> bool
-    requires { ⌜ count ≤ length (now words) ⌝ }
-    ensures { λ r. ⌜ r ≡ isNone (firstNotBelow q (take count (now (words .entry)))) ⌝ }
-{
-    let mut below = true;
-    for i in 0..count {
-        below = below & (words[i] < q);
-    }
-    below
-}
-
-// Checks 8 and 9 of a call that takes `per` words for each of its bits.
-pub fn check_words(words: &[Word], bits: usize, per: usize, q: Word) -> Checked
-    requires { ⌜ bits * per ≤ 2 ^ 32 ⌝ }
+// Checks 8 and 9 of a call that takes `per` words for each of its bits. Both numbers have 32 bits, so that their product fits a usize.
+pub fn check_words(words: &[Word], bits: u32, per: u32, q: Word) -> Checked
     ensures { λ r. ⌜ checkedReading r ≡ checked (wordChecks (bits * per) q (now (words .entry))) ⌝ }
 {
-    let count = bits * per;
-    if words.len() < count {
+    if words.len() < (bits as usize) * (per as usize) {
         return refuse(WORD_COUNT, 0);
     }
-    if all_below(words, count, q) {
-        return Checked::Passed;
-    }
-    if let Found::At(i) = first_not_below(words, bits, per, q) {
+    if let Found::At(i) = first_not_below(words, bits as usize, per as usize, q) {
         return refuse(WORD_RANGE, i);
     }
     Checked::Passed

@@ -9,11 +9,10 @@ use lib.Seq.{getD-set-other}
 use Rattle.residue.specs.Residue.{sub, neg, add, sum, cswapSub}
 use Rattle.residue.specs.Laws.{reduce-small, reduce-lt, reduce-add, add-zero, add-comm, add-assoc, add-lt, neg-sub, sub-zero}
 use Rattle.residue.specs.Sum.{running-none, running-next, running-all, sum-last, sum-lt}
-use Rattle.buffers.specs.Positions.{at, table, rows, after, Same, Below}
+use Rattle.buffers.specs.Positions.{at, table, after, Same, Below}
 use Rattle.buffers.specs.PositionLaws.{table-same, after-after, set-agrees}
-use Rattle.buffers.specs.Rows.{rows-last}
-use Rattle.checks.specs.Width.{bit, bit-lt, bit-lowest}
-use Rattle.conversion.specs.Conversion.{bitsAt, pairs, extend, lessTwice, xorBit, xorShare, convert, refresh, convertBit, row, bitWords, bitShares}
+use Rattle.checks.specs.Width.{bit-lt, bit-lowest}
+use Rattle.conversion.specs.Conversion.{bitsAt, pairs, extend, lessTwice, xorBit, xorShare, convert, refresh, convertBit, bitShares}
 use Rattle.conversion.specs.ZeroSharing.{zeroSharing, refresh-adds, refresh-cong}
 use Rattle.conversion.specs.Laws.{lessTwice-zero, lessTwice-one, extend-below, extend-from, xorShare-cong, convert-reduced, convertBit-local}
 use Rattle.conversion.specs.Arrays.{Holds}
@@ -206,24 +205,10 @@ module _ (q : ℕ) (w : ℕ → ℕ) where
                 let k : p ≡ o + (n - (i + 1)) = omega (arith, P .position) in
                 rw (loss t m, e, k) (L .wanted (suc t) (omega arith) ∙ rw (whole, after-after o (n - (i + 1)) w) (regroup (at b (i + suc t)) _ (neg q (w (o + t)))))
 
--- ---- the row of a bit
+-- ---- one bit alone
 
--- row t of k lies before the end
-pub row-fits : {t k : ℕ} (m : ℕ) → t < k → t * m + m ≤ k * m
-row-fits {t} {k} m h = N.le-trans (N.le-of-eq (sym (N.suc-mul t m))) (N.mul-le-mul-right m h)
-
--- made from an array with the shares in front
-pub row-done : (q n t : ℕ) (x array : List ℕ) → 2 < q → Same n (at array) (at x) → (start p : ℕ) (words : List ℕ) → p ≡ start + t * bitWords n
-    → table n (convertBit q n (bitsAt (at array) t) (after p (at words))) ≡ table n (row q n (at x) (after start (at words)) t)
-unfolding row
-row-done q n t x array large h start p words d =
-    table-same n _ _ (convertBit-local q n (bitsAt (at array) t) (bitsAt (at x) t) _ _ (first array) (first x) (λ i l. ap (λ (z : ℕ). bit z t) (h i l)) (λ j l. ap (at words) (omega arith)))
-  where
-    first : (l : List ℕ) → bitsAt (at l) t 0 < q
-    first l = omega (arith, bit-lt (at l 0) t)
-
--- The one row of a bit alone: its shares are their own lowest bits.
-pub one-row : (n q : ℕ) (bits words : List ℕ) → 2 < q → 1 ≤ n → Below 2 n (at bits) → rows 1 n (row q n (at bits) (after 0 (at words))) ≡ bitShares n q bits words
-unfolding bitShares row rows
-one-row n q bits words large h below =
-    rows-last 0 n (row q n (at bits) (after 0 (at words))) ∙ table-same n _ _ (convertBit-local q n (bitsAt (at bits) 0) (at bits) _ _ (omega (arith, bit-lt (at bits 0) 0)) (omega (arith, below 0 h)) (λ i l. let s = below i l in bit-lowest (at bits i) ∙ omega arith) (λ j l. let e : 0 + (0 * bitWords n + j) ≡ j = omega arith in ap (at words) e))
+-- Its shares, which stand in front of the array, are their own lowest bits.
+pub bit-alone : (n q : ℕ) (bits words array : List ℕ) → 2 < q → 1 ≤ n → Below 2 n (at bits) → Same n (at array) (at bits) → table n (convertBit q n (bitsAt (at array) 0) (after 0 (at words))) ≡ bitShares n q bits words
+unfolding bitShares
+bit-alone n q bits words array large h below same =
+    table-same n _ _ (convertBit-local q n (bitsAt (at array) 0) (at bits) _ _ (omega (arith, bit-lt (at array 0) 0)) (omega (arith, below 0 h)) (λ i l. rw (same i l) (bit-lowest (at bits i) ∙ omega (arith, below i l))) (λ j l. ap (at words) (omega arith)))

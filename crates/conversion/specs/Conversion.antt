@@ -76,10 +76,6 @@ module _ (q : ℕ) where
   unfoldable pub convertBit : ℕ → (ℕ → ℕ) → (ℕ → ℕ) → ℕ → ℕ
   convertBit n b w = refresh n (after (pairs n) w) (convert n b w)
 
-  -- The n shares of bit t of a string, whose bits take the words w from bit 0 on, each the next n(n − 1).
-  unfoldable pub row : ℕ → (ℕ → ℕ) → (ℕ → ℕ) → ℕ → ℕ → ℕ
-  row n x w t = convertBit n (bitsAt x t) (after (t * bitWords n) w)
-
 -- ---- the call
 
 unfoldable pub bitShares : ℕ → ℕ → List ℕ → List ℕ → List ℕ

@@ -10,11 +10,11 @@ ghost use Prim.Native.Nat.{_+_, _*_, _^_, _≤_, _<_};
 ghost use lib.ListN.{length};
 ghost use Rattle.residue.specs.Residue.{sub};
 ghost use Rattle.buffers.specs.Overwrite.{overwrite};
-ghost use Rattle.buffers.specs.Positions.{at, table, rows, after, Same, Below};
+ghost use Rattle.buffers.specs.Positions.{at, table, after, Below};
 ghost use Rattle.checks.specs.Width.{bit};
 ghost use Rattle.checks.specs.Checks.{checked};
 ghost use Rattle.checks.specs.Answers.{checkedReading, outcome};
-ghost use Rattle.conversion.specs.Conversion.{pairs, lessTwice, xorShare, bitsAt, convert, refresh, convertBit, row, bitWords, bitChecks, converted};
+ghost use Rattle.conversion.specs.Conversion.{pairs, lessTwice, xorShare, bitsAt, convert, refresh, convertBit, bitWords, bitChecks, converted};
 ghost use Rattle.conversion.specs.Secrecy.{BitSecrecy};
 ghost use Rattle.conversion.specs.Arrays.{Holds, Drawn, Modulus};
 
@@ -66,26 +66,18 @@ fn one_share(bit: Word) -> [Word; 8]
     one
 }
 
-// Steps 1 and 2: the list for the first j shares of bit t, two or more. One share is no call of its own.
+// Steps 1 and 2: the list for the first j shares of bit t, whose words stand in front of the list.
 // `&words[..]`: the words' address and length are then copied one by one, as they were stored, which is faster than both at once.
-fn convert(
-    shares: &[u16; 8],
-    t: usize,
-    j: usize,
-    q: Word,
-    words: &[Word],
-    start: usize,
-) -> [Word; 8]
-    requires { ⌜ (2 ≤ j) × (j ≤ 8) × (t < 16) × Modulus q × Drawn q start (pairs j) (now words) ⌝ }
-    ensures { λ r. ⌜ Holds j (convert q j (bitsAt (at (now (shares .entry))) t) (after start (at (now (words .entry))))) r ⌝ }
+fn convert(shares: &[u16; 8], t: usize, j: usize, q: Word, words: &[Word]) -> [Word; 8]
+    requires { ⌜ (1 ≤ j) × (j ≤ 8) × (t < 16) × Modulus q × Drawn q 0 (pairs j) (now words) ⌝ }
+    ensures { λ r. ⌜ Holds j (convert q j (bitsAt (at (now (shares .entry))) t) (at (now (words .entry)))) r ⌝ }
 {
+    if j == 1 {
+        return one_share(bit(shares[0], t));
+    }
     let k = j - 1;
-    let a = if k == 1 {
-        one_share(bit(shares[0], t))
-    } else {
-        convert(shares, t, k, q, &words[..], start)
-    };
-    xor_share(a, k, bit(shares[k], t), q, words, start + k * (k - 1) / 2)
+    let a = convert(shares, t, k, q, &words[..]);
+    xor_share(a, k, bit(shares[k], t), q, words, k * (k - 1) / 2)
 }
 
 // Step 3: every pair of the n shares takes a word from `start` on. The shares come to stand at `to` in `out` and behind.
@@ -116,8 +108,8 @@ fn refresh(
     }
 }
 
-// The n shares of bit t, from the n(n - 1) words at `start`. They come to stand at `to` in `out` and behind.
-fn convert_at(
+// The n shares of bit t, by steps 1, 2 and 3 with the n(n - 1) words at `start`. They come to stand at `to` in `out` and behind.
+pub fn convert_at(
     shares: &[u16; 8],
     t: usize,
     n: usize,
@@ -130,50 +122,8 @@ fn convert_at(
     requires { ⌜ (2 ≤ n) × (n ≤ 8) × (t < 16) × Modulus q × Drawn q start (bitWords n) (now words) × (to + n ≤ length (now out)) ⌝ }
     ensures { λ _. ⌜ now (out .exit) ≡ overwrite (now (out .entry)) to (table n (convertBit q n (bitsAt (at (now (shares .entry))) t) (after start (at (now (words .entry)))))) ⌝ }
 {
-    let a = convert(shares, t, n, q, &words[..], start);
+    let a = convert(shares, t, n, q, &words[start..]);
     refresh(a, n, q, words, start + n * (n - 1) / 2, out, to);
-}
-
-// The n shares, in front of an array. Eight turns, so that they are single stores and no call.
-fn gather(shares: &[u16], n: usize, array: &mut [u16])
-    requires { ⌜ (n ≤ 8) × (length (now shares) ≡ n) × (length (now array) ≡ 8) ⌝ }
-    ensures { λ _. ⌜ Same n (at (now (array .exit))) (at (now (shares .entry))) ⌝ }
-{
-    for i in 0..8 {
-        if i < n {
-            array[i] = shares[i];
-        }
-    }
-}
-
-// The rows of a string's k bits, n shares each, at `to` in `out` and behind. Each bit takes the next n(n - 1) words from `start` on.
-pub fn convert_string(
-    shares: &[u16],
-    n: usize,
-    k: usize,
-    q: Word,
-    words: &[Word],
-    start: usize,
-    out: &mut [Word],
-    to: usize,
-)
-    requires { ⌜ (2 ≤ n) × (n ≤ 8) × (k ≤ 16) × Modulus q × (length (now shares) ≡ n) × Drawn q start (k * bitWords n) (now words) × (to + k * n ≤ length (now out)) ⌝ }
-    ensures { λ _. ⌜ now (out .exit) ≡ overwrite (now (out .entry)) to (rows k n (row q n (at (now (shares .entry))) (after start (at (now (words .entry)))))) ⌝ }
-{
-    let mut array = [0u16; 8];
-    gather(shares, n, &mut array);
-    for t in 0..k {
-        convert_at(
-            &array,
-            t,
-            n,
-            q,
-            words,
-            start + t * (n * (n - 1)),
-            out,
-            to + t * n,
-        );
-    }
 }
 
 fn check_bit(n: usize, q: Word, bits: &[u16], words: &[Word], room: usize) -> Checked
@@ -191,7 +141,7 @@ fn check_bit(n: usize, q: Word, bits: &[u16], words: &[Word], room: usize) -> Ch
     if let Found::At(i) = checks::first_wide(bits, 1) {
         return checks::refuse(checks::X_WIDTH, i);
     }
-    if let Checked::Failed(r) = checks::check_words(words, 1, n * (n - 1), q) {
+    if let Checked::Failed(r) = checks::check_words(words, 1, (n * (n - 1)) as u32, q) {
         return Checked::Failed(r);
     }
     if room < n {
@@ -210,6 +160,8 @@ pub fn convert_bit(n: usize, q: Word, bits: &[u16], words: &[Word], out: &mut [W
     if let Checked::Failed(r) = check_bit(n, q, bits, words, out.len()) {
         return Answer::Refused(r);
     }
-    convert_string(bits, n, 1, q, words, 0, out, 0);
+    let mut array = [0u16; 8];
+    buffers::copy_eight(&mut array, bits);
+    convert_at(&array, 0, n, q, words, 0, out, 0);
     Answer::Done(n * (n - 1))
 }

@@ -12,8 +12,8 @@ use Rattle.checks.specs.Search.{firstFrom}
 use Rattle.checks.specs.Checks.{Verdict, accepted, refused, verdict, Outcome}
 use Rattle.masking.specs.Sharing.{xorAll, maskShares, masked, openedResidue}
 use Rattle.masking.specs.Signed.{centred}
-use Rattle.conversion.specs.Conversion.{pairs, extend, lessTwice, xorBit, xorShare, convert, transfer, refreshShare, refreshFrom, convertBit, row}
-use Rattle.sampler.specs.Sampler.{Buffers, both, stringShare, sampleShare, sampleShares, sampled}
+use Rattle.conversion.specs.Conversion.{pairs, extend, lessTwice, xorBit, xorShare, convert, transfer, refreshShare, refreshFrom, convertBit}
+use Rattle.sampler.specs.Sampler.{Buffers, both, row, stringShare, sampleShare, sampleShares, sampled}
 
 -- a call, with what its buffers hold before it
 pub data Call : Type 0 where

@@ -14,9 +14,9 @@ use Rattle.masking.specs.Sharing.{xorAll}
 use Rattle.masking.specs.Signed.{weight}
 use Rattle.masking.specs.Weight.{sum-bits, weight-bits}
 use Rattle.masking.specs.Xor.{xorAll-lt, bit-xorAll}
-use Rattle.conversion.specs.Conversion.{row, bitsAt, bitWords}
+use Rattle.conversion.specs.Conversion.{bitsAt, bitWords}
 use Rattle.conversion.specs.Laws.{convertBit-lt, convertBit-local, convertBit-sum}
-use Rattle.sampler.specs.Sampler.{stringShare, sampleShare, sampleWords}
+use Rattle.sampler.specs.Sampler.{row, stringShare, sampleShare, sampleWords}
 
 module _ (q n : ℕ) (large : 2 < q) where
   abbrev positive : 0 < q

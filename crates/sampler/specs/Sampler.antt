@@ -7,14 +7,18 @@ use Rattle.residue.specs.Residue.{sub, sum}
 use Rattle.buffers.specs.Overwrite.{overwrite}
 use Rattle.buffers.specs.Positions.{at, table, after}
 use Rattle.checks.specs.Checks.{Check, Outcome, verdict, settled, parameterChecks, exactly, narrow, atLeast, wordChecks}
-use Rattle.conversion.specs.Conversion.{row, bitWords}
+use Rattle.conversion.specs.Conversion.{convertBit, bitsAt, bitWords}
 
 -- ---- the sample
 
 module _ (q n : ℕ) where
+  -- The n shares of bit t of a string, whose bits take the words w from bit 0 on, each the next n(n − 1).
+  unfoldable pub row : (ℕ → ℕ) → (ℕ → ℕ) → ℕ → ℕ → ℕ
+  row x w t = convertBit q n (bitsAt x t) (after (t * bitWords n) w)
+
   -- share i, summed over the k bits of a string
   unfoldable pub stringShare : ℕ → (ℕ → ℕ) → (ℕ → ℕ) → ℕ → ℕ
-  stringShare k x w i = sum q k (λ t. row q n x w t i)
+  stringShare k x w i = sum q k (λ t. row x w t i)
 
   -- Output share i: its sum over the x bits, which take their words first, less its sum over the y bits.
   unfoldable pub sampleShare : ℕ → (ℕ → ℕ) → (ℕ → ℕ) → (ℕ → ℕ) → ℕ → ℕ

@@ -10,10 +10,10 @@ use Rattle.buffers.specs.PositionLaws.{after-after}
 use Rattle.checks.specs.Width.{bit-lt}
 use Rattle.secrecy.specs.Words.{Reduced}
 use Rattle.secrecy.specs.Translation.{moved, Equivariant, Invariant, equivariant-add, Within, behind-stays}
-use Rattle.conversion.specs.Conversion.{row, bitsAt, pairs, convertBit, bitWords}
+use Rattle.conversion.specs.Conversion.{bitsAt, pairs, convertBit, bitWords}
 use Rattle.conversion.specs.Laws.{pairs-twice}
 use Rattle.conversion.specs.Translation.{bitForm, convertBit-form, refreshWords, bit-equivariant}
-use Rattle.sampler.specs.Sampler.{stringShare, sampleShare}
+use Rattle.sampler.specs.Sampler.{row, stringShare, sampleShare}
 
 module _ (q n m start : ℕ) (x y : ℕ → ℕ) where
   -- what a sample of suc m bits adds to its first bit

@@ -9,16 +9,48 @@ ghost use mathlib.Core.Path.{_≡_};
 ghost use Prim.Native.Nat.{_+_, _*_, _≤_, _<_};
 ghost use lib.ListN.{length, replicate};
 ghost use Rattle.buffers.specs.Overwrite.{overwrite};
-ghost use Rattle.buffers.specs.Positions.{at, table};
+ghost use Rattle.buffers.specs.Positions.{at, table, rows, after};
 ghost use Rattle.checks.specs.Checks.{checked};
 ghost use Rattle.checks.specs.Answers.{checkedReading, outcome};
+ghost use Rattle.conversion.specs.Conversion.{bitWords};
 ghost use Rattle.conversion.specs.Arrays.{Drawn, Modulus};
-ghost use Rattle.sampler.specs.Sampler.{sampleWords, sampleShares, workLength, pairChecks, sampleChecks, both, sampled};
+ghost use Rattle.sampler.specs.Sampler.{row, sampleWords, sampleShares, workLength, pairChecks, sampleChecks, both, sampled};
 ghost use Rattle.sampler.specs.Columns.{columnShare};
 ghost use Rattle.sampler.specs.Secrecy.{Secrecy};
 
 // The most words that a sample takes: 2kn(n - 1) where n = 8 and k = 16.
 pub const MOST_WORDS: usize = 1792;
+
+// The rows of a string's k bits, one of n shares for each bit, at `to` in the work area and behind. Each bit takes the next n(n - 1) words from
+// `start` on.
+fn write_rows(
+    shares: &[u16],
+    k: usize,
+    q: Word,
+    words: &[Word],
+    start: usize,
+    work: &mut [Word],
+    to: usize,
+)
+    requires { ⌜ (2 ≤ length (now shares)) × (length (now shares) ≤ 8) × (k ≤ 16) × Modulus q × Drawn q start (k * bitWords (length (now shares))) (now words) × (to + k * length (now shares) ≤ length (now work)) ⌝ }
+    ensures { λ _. ⌜ now (work .exit) ≡ overwrite (now (work .entry)) to (rows k (length (now (shares .entry))) (row q (length (now (shares .entry))) (at (now (shares .entry))) (after start (at (now (words .entry)))))) ⌝ }
+{
+    let n = shares.len();
+    let mut array = [0u16; 8];
+    buffers::copy_eight(&mut array, shares);
+    for t in 0..k {
+        conversion::convert_at(
+            &array,
+            t,
+            n,
+            q,
+            words,
+            start + t * (n * (n - 1)),
+            work,
+            to + t * n,
+        );
+    }
+}
 
 // Output share i: the sum of column i over the k rows of x, less that over the k rows of y behind them.
 fn sum_column(work: &[Word], n: usize, k: usize, q: Word, i: usize) -> Word
@@ -59,8 +91,8 @@ fn write_sample(
     ensures { λ _. ⌜ (now (out .exit) ≡ overwrite (now (out .entry)) 0 (sampleShares n k q (now (x .entry)) (now (y .entry)) (now (words .entry)))) × (now (work .exit) ≡ overwrite (now (work .entry)) 0 (replicate (workLength n k) 0)) ⌝ }
 {
     let half = k * (n * (n - 1));
-    conversion::convert_string(x, n, k, q, words, 0, work, 0);
-    conversion::convert_string(y, n, k, q, words, half, work, k * n);
+    write_rows(x, k, q, words, 0, work, 0);
+    write_rows(y, k, q, words, half, work, k * n);
     write_shares(work, n, k, q, out);
     buffers::zero(work, 2 * k * n);
 }
@@ -101,7 +133,12 @@ fn check_sample(
     if let Checked::Failed(r) = check_pair(n, k, q, x, y) {
         return Checked::Failed(r);
     }
-    if let Checked::Failed(r) = checks::check_words(words, 2 * k, n * (n - 1), q) {
+    if let Checked::Failed(r) = checks::check_words(
+        words,
+        (2 * k) as u32,
+        (n * (n - 1)) as u32,
+        q,
+    ) {
         return Checked::Failed(r);
     }
     if room < n {

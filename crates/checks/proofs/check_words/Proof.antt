@@ -1,7 +1,9 @@
 -- One answer for each check: those before it held, and it fails.
 use mathlib.Core.Path.{sym, _∙_}
 use mathlib.Core.List.{List}
-use Prim.Native.Nat.{_*_}
+use Prim.Native.Nat.{_*_, _≤_}
+use native.Mathlib.Nat.{mul-le-mul}
+use native.Mathlib.Omega.{arith}
 use borrow.Author.Tests.{le-leb, lt-leb}
 use borrow.Author.Needs.{needs}
 use Rattle.checks.specs.Checks.{Check, wordChecks}
@@ -15,20 +17,19 @@ checks s = wordChecks (s .args .bits * s .args .per) (s .args .q) (s .args .word
 past1 : (c : tie.Else1) → Past (checks (c .before .before)) 1
 past1 c = pass tt _ _ (le-leb _ _ (c .if1 .left))
 
-mul-count : tie.Need-mul-count
-mul-count c = search needs
+-- a product of two numbers of 32 bits
+mul-if1 : tie.Need-mul-if1
+mul-if1 c =
+    let a = c .before .args in
+    let b : a .bits ≤ 4294967295 = omega arith in
+    let p : a .per ≤ 4294967295 = omega arith in
+    omega (arith, mul-le-mul b p)
 
 refuse-requires : tie.Need-refuse-requires
 refuse-requires c κs = search needs
 
 returns : tie.Need-returns
 returns c = c .refuse .ensures ∙ sym (fail tt _ _ (lt-leb _ _ (c .before .if1 .taken)))
-
-all-below-requires : tie.Need-all-below-requires
-all-below-requires c κs = search needs
-
-returns-2 : tie.Need-returns-2
-returns-2 c = sym (past1 (c .before .before) ∙ pass tt _ _ (sym (c .before .all-below .ensures) ∙ c .if2 .taken) ∙ pass-all tt)
 
 first-not-below-requires : tie.Need-first-not-below-requires
 first-not-below-requires c κs = search needs
@@ -39,29 +40,27 @@ enum-known-i c = search needs
 refuse-requires-2 : tie.Need-refuse-requires-2
 refuse-requires-2 c κs = search needs
 
-returns-3 : tie.Need-returns-3
-returns-3 c =
+returns-2 : tie.Need-returns-2
+returns-2 c =
     c .refuse2 .ensures
-    ∙ sym (past1 (c .before .before .before .before .before .before .before) ∙ fail-some tt _ _ _ _ _ (search-some (c .before .before .before .before .first-not-below .ensures) (c .before .before .i .given .1)))
+    ∙ sym (past1 (c .before .before .before .before .before) ∙ fail-some tt _ _ _ _ _ (search-some (c .before .before .before .before .first-not-below .ensures) (c .before .before .i .given .1)))
 
 enum-told : tie.Need-enum-told
 enum-told c = search needs
 
-returns-4 : tie.Need-returns-4
-returns-4 c = sym (past1 (c .before .before .before .before .before) ∙ pass-none tt _ _ _ _ (search-none (c .before .before .first-not-below .ensures) (c .enum-told .given .1)) ∙ pass-all tt)
+returns-3 : tie.Need-returns-3
+returns-3 c = sym (past1 (c .before .before .before) ∙ pass-none tt _ _ _ _ (search-none (c .before .before .first-not-below .ensures) (c .enum-told .given .1)) ∙ pass-all tt)
 
 pub check-words-spec : {M : Type 1} → statement M
 check-words-spec =
     tie.close
     (tie.spec
-    mul-count
+    mul-if1
     refuse-requires
     returns
-    all-below-requires
-    returns-2
     first-not-below-requires
     enum-known-i
     refuse-requires-2
-    returns-3
+    returns-2
     enum-told
-    returns-4)
+    returns-3)

@@ -1,52 +1,50 @@
 -- The search passed the bits below b and, in bit b, the words below i.
 use mathlib.Core.Path.{_≡_, refl, sym, ap, _∙_}
 use Prim.Native.Nat.{_+_, _*_, _-_, _≤_, _<_}
+use native.Mathlib.Nat.{zero-mul}
 use native.Mathlib.Omega.{arith}
 use lib.ListN.{length, take}
 use borrow.Author.Needs.{needs}
 use Rattle.checks.specs.Answers.{foundReading}
-use Rattle.checks.specs.Laws.{Searched}
+use Rattle.checks.specs.Laws.{Searched, search-begins}
 use Rattle.checks.specs.declared.Found.the-variants.{Nothing}
-use Rattle.checks.proofs.Rows.{begins, inside, passes, finds, row-ends, ends}
+use Rattle.checks.proofs.Rows.{inside, passes, finds, row-ends, ends}
 use Rattle.checks.proofs.first_not_below.Statement.{statement}
 use Rattle.checks.proofs.first_not_below.Tie as tie
 
 abbrev Inv-loop : tie.InvT-loop
-Inv-loop words bits per q found₀ b i₀ found i = (i ≤ per) × (found ≡ Nothing) × Searched q (take (bits * per) words) (b * per + i)
+Inv-loop words bits per q found₀ at₀ b i₀ found at i = (i ≤ per) × (found ≡ Nothing) × (at ≡ b * per + i) × Searched q (take (bits * per) words) at
 
 abbrev μ-loop : tie.MeasureT-loop
-μ-loop words bits per q found₀ b i₀ found i = per - i
+μ-loop words bits per q found₀ at₀ b i₀ found at i = per - i
 
 abbrev Inv-bits : tie.InvT-bits
-Inv-bits words bits per q found₀ b₀ found b = (b ≤ bits) × (found ≡ Nothing) × Searched q (take (bits * per) words) (b * per + 0)
+Inv-bits words bits per q found₀ at₀ b₀ found at b = (b ≤ bits) × (found ≡ Nothing) × (at ≡ b * per) × Searched q (take (bits * per) words) at
 
 abbrev μ-bits : tie.MeasureT-bits
-μ-bits words bits per q found₀ b₀ found b = bits - b
+μ-bits words bits per q found₀ at₀ b₀ found at b = bits - b
 
 -- word i of bit b lies in the list
-in-list : (c : tie.In-loop Inv-loop μ-loop Inv-bits μ-bits)
-    → c .before .before .before .bits .b * c .before .before .before .before .args .per + c .before .loop .i < length (c .before .before .before .before .args .words .now)
+in-list : (c : tie.In-loop Inv-loop μ-loop Inv-bits μ-bits) → c .before .loop .at < length (c .before .before .before .before .args .words .now)
 in-list c =
     let s = c .before .before .before .before in
-    inside (s .args .q) (s .args .bits) (s .args .per) (s .args .words .now) (s .pre) (c .before .before .before .bits .b) (c .before .loop .i) (c .before .before .bits-test .taken) (c .loop-test .taken)
+    inside (s .args .q) (s .args .bits) (s .args .per) (s .args .words .now) (s .pre) (c .before .before .before .bits .b) (c .before .loop .i) (c .before .loop .at)
+    (c .before .before .bits-test .taken) (c .loop-test .taken) (c .before .loop .inv .2)
 
 bits-holds : tie.Need-bits-holds Inv-loop μ-loop Inv-bits μ-bits
-bits-holds c = (omega arith, refl, begins (c .args .q) (c .args .bits) (c .args .per) (c .args .words .now) (c .pre))
+bits-holds c = (omega arith, refl, sym (zero-mul (c .args .per)), search-begins _ _)
 
 loop-holds : tie.Need-loop-holds Inv-loop μ-loop Inv-bits μ-bits
-loop-holds c = (omega arith, c .before .bits .inv .1, c .before .bits .inv .2)
-
-mul-at : tie.Need-mul-at Inv-loop μ-loop Inv-bits μ-bits
-mul-at c = omega (arith, in-list c)
-
-add-at : tie.Need-add-at Inv-loop μ-loop Inv-bits μ-bits
-add-at c = omega (arith, in-list c)
+loop-holds c = (omega arith, c .before .bits .inv .1, omega (arith, c .before .bits .inv .2), c .before .bits .inv .3)
 
 mul-if1 : tie.Need-mul-if1 Inv-loop μ-loop Inv-bits μ-bits
 mul-if1 c = omega (arith, in-list c)
 
 shared-slice-read-if1 : tie.Need-shared-slice-read-if1 Inv-loop μ-loop Inv-bits μ-bits
 shared-slice-read-if1 c = in-list (c .before)
+
+add-at : tie.Need-add-at Inv-loop μ-loop Inv-bits μ-bits
+add-at c = omega (arith, in-list (c .before .before))
 
 add-i : tie.Need-add-i Inv-loop μ-loop Inv-bits μ-bits
 add-i c = search needs
@@ -60,8 +58,9 @@ loop-again c =
     let l = c .before .before .before .loop in (
       omega arith,
       l .inv .1,
-      passes (s .args .q) (s .args .bits) (s .args .per) (s .args .words .now) (s .pre) (c .before .before .before .before .before .bits .b) (l .i)
-          (c .before .before .before .before .bits-test .taken) (c .before .before .loop-test .taken) (c .if1 .left) (l .inv .2),
+      omega (arith, l .inv .2),
+      passes (s .args .q) (s .args .bits) (s .args .per) (s .args .words .now) (s .pre) (c .before .before .before .before .before .bits .b) (l .i) (l .at)
+          (c .before .before .before .before .bits-test .taken) (c .before .before .loop-test .taken) (l .inv .2) (c .if1 .left) (l .inv .3),
     )
 
 add-b : tie.Need-add-b Inv-loop μ-loop Inv-bits μ-bits
@@ -76,21 +75,23 @@ bits-again c =
     let l = c .before .loop in (
       omega arith,
       l .inv .1,
-      row-ends (s .args .q) (s .args .bits) (s .args .per) (s .args .words .now) (s .pre) (c .before .before .before .bits .b) (l .i) (l .inv .0) (c .loop-test .left) (l .inv .2),
+      row-ends (s .args .q) (s .args .bits) (s .args .per) (s .args .words .now) (s .pre) (c .before .before .before .bits .b) (l .i) (l .at) (l .inv .0) (c .loop-test .left) (l .inv .2),
+      l .inv .3,
     )
 
 returns : tie.Need-returns Inv-loop μ-loop Inv-bits μ-bits
 returns c =
     let s = c .before .before in
     let l = c .before .bits in
-    ap foundReading (l .inv .1) ∙ sym (ends (s .args .q) (s .args .bits) (s .args .per) (s .args .words .now) (s .pre) (l .b) (l .inv .0) (c .bits-test .left) (l .inv .2))
+    ap foundReading (l .inv .1)
+    ∙ sym (ends (s .args .q) (s .args .bits) (s .args .per) (s .args .words .now) (s .pre) (l .b) (l .at) (l .inv .0) (c .bits-test .left) (l .inv .2) (l .inv .3))
 
 returns-2 : tie.Need-returns-2 Inv-loop μ-loop Inv-bits μ-bits
 returns-2 c =
     let s = c .before .before .before .before .before .before in
     let l = c .before .before .before .loop in
-    sym (finds (s .args .q) (s .args .bits) (s .args .per) (s .args .words .now) (s .pre) (c .before .before .before .before .before .bits .b) (l .i)
-    (c .before .before .before .before .bits-test .taken) (c .before .before .loop-test .taken) (c .if1 .taken) (l .inv .2))
+    sym (finds (s .args .q) (s .args .bits) (s .args .per) (s .args .words .now) (s .pre) (c .before .before .before .before .before .bits .b) (l .i) (l .at)
+    (c .before .before .before .before .bits-test .taken) (c .before .before .loop-test .taken) (l .inv .2) (c .if1 .taken) (l .inv .3))
 
 pub first-not-below-spec : {M : Type 1} → statement M
 first-not-below-spec =
@@ -102,10 +103,9 @@ first-not-below-spec =
     μ-bits
     bits-holds
     loop-holds
-    mul-at
-    add-at
     mul-if1
     shared-slice-read-if1
+    add-at
     add-i
     loop-less
     loop-again

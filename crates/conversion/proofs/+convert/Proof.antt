@@ -1,17 +1,14 @@
--- The measure is the number of shares. Each step adds one share to the list of the step before, which for two shares is the first one alone.
-use mathlib.Core.Path.{_≡_, sym, ap, _∙_}
-use mathlib.Core.Logic.{⊎-elim}
+-- The measure is the number of shares. One share is its own list; each further one is added to the list of those before it.
+use mathlib.Core.Path.{_≡_, ap}
 use native.Mathlib.Omega.{arith}
 use Rattle.buffers.specs.Positions.{at, after}
-use Rattle.buffers.specs.PositionLaws.{after-after}
 use Rattle.checks.specs.Width.{bit-lt}
-use Rattle.conversion.specs.Conversion.{pairs, bitsAt}
-use Rattle.conversion.specs.Conversion as C
+use Rattle.conversion.specs.Conversion.{pairs}
 use Rattle.conversion.specs.Laws.{pairs-half}
-use Rattle.conversion.specs.Arrays.{Holds, drawn-part}
+use Rattle.conversion.specs.Arrays.{drawn-part}
 use Rattle.conversion.proofs.Steps.{products, pairs-step, one-list, holds-below, share-added}
 use borrow.Author.Needs.{needs}
-use Prim.Native.Nat.{ℕ, _+_, _-_, _*_, _/_, _<_}
+use Prim.Native.Nat.{ℕ, _-_, _*_, _/_, _<_}
 use borrow.Fn.Kinds.{In}
 use borrow.Fn.PlainCycle.{Measures, is, falls, and}
 use Rattle.conversion.proofs.convert.Reads as convert
@@ -31,35 +28,6 @@ convert-at t = and 2 convert-kinds.ps (is 2 convert-kinds.ps μ-convert t) conve
 
 abbrev convert-below : ℕ → In 2 convert-kinds.ps
 convert-below t = and 2 convert-kinds.ps (falls 2 convert-kinds.ps _<_ μ-convert t) convert.Pre
-
--- the list that the step begins with
-list : (t : ℕ) (c : convert-lts.Joined1 (
-  bit-reads.Asked,
-  bit-reads.Learnt,
-  one-share-reads.Asked,
-  one-share-reads.Learnt,
-  convert-below t,
-  convert.Post,
-  xor-share-reads.Asked,
-  xor-share-reads.Learnt,
-) (convert-at t) convert.Post) → let s = c .before .before .args in Holds (s .j - 1) (C.convert (s .q) (s .j - 1) (bitsAt (at (s .shares .now)) (s .t)) (after (s .start) (at (s .words .now)))) (c .if1 .a)
-list t c =
-    ⊎-elim
-    (λ w. rw (w .4) (one-list _ _ _ _ _ _ (w .0 .taken) (w .2 .ensures) (w .3 .ensures)))
-    (λ w. rw (w .2) (w .1 .ensures))
-    (c .if1 .came)
-
-convert-sub-k : (t : ℕ) → convert-lts.Need-sub-k (
-  bit-reads.Asked,
-  bit-reads.Learnt,
-  one-share-reads.Asked,
-  one-share-reads.Learnt,
-  convert-below t,
-  convert.Post,
-  xor-share-reads.Asked,
-  xor-share-reads.Learnt,
-) (convert-at t) convert.Post
-convert-sub-k t c = search needs
 
 convert-element-copy-out-bit : (t : ℕ) → convert-lts.Need-element-copy-out-bit (
   bit-reads.Asked,
@@ -97,6 +65,30 @@ convert-one-share-requires : (t : ℕ) → convert-lts.Need-one-share-requires (
 ) (convert-at t) convert.Post
 convert-one-share-requires t c κs = search needs
 
+convert-returns : (t : ℕ) → convert-lts.Need-returns (
+  bit-reads.Asked,
+  bit-reads.Learnt,
+  one-share-reads.Asked,
+  one-share-reads.Learnt,
+  convert-below t,
+  convert.Post,
+  xor-share-reads.Asked,
+  xor-share-reads.Learnt,
+) (convert-at t) convert.Post
+convert-returns t c = one-list _ _ _ _ _ _ (c .before .before .before .if1 .taken) (c .before .bit .ensures) (c .one-share .ensures)
+
+convert-sub-k : (t : ℕ) → convert-lts.Need-sub-k (
+  bit-reads.Asked,
+  bit-reads.Learnt,
+  one-share-reads.Asked,
+  one-share-reads.Learnt,
+  convert-below t,
+  convert.Post,
+  xor-share-reads.Asked,
+  xor-share-reads.Learnt,
+) (convert-at t) convert.Post
+convert-sub-k t c = search needs
+
 convert-convert-requires : (t : ℕ) → convert-lts.Need-convert-requires (
   bit-reads.Asked,
   bit-reads.Learnt,
@@ -107,9 +99,9 @@ convert-convert-requires : (t : ℕ) → convert-lts.Need-convert-requires (
   xor-share-reads.Asked,
   xor-share-reads.Learnt,
 ) (convert-at t) convert.Post
-convert-convert-requires t c κs = let s = c .before .before in
+convert-convert-requires t c κs =
+    let s = c .before .before in
     let e = pairs-step (s .args .j) (s .args .j - 1) (omega arith) in
-    let l = c .if1 .left in
     (omega arith, (omega arith, omega arith, s .pre .1 .2, s .pre .1 .3, drawn-part _ 0 _ (omega arith) (omega arith) (s .pre .1 .4)))
 
 convert-mul-bit : (t : ℕ) → convert-lts.Need-mul-bit (
@@ -170,22 +162,9 @@ convert-mul-xor-share : (t : ℕ) → convert-lts.Need-mul-xor-share (
   xor-share-reads.Asked,
   xor-share-reads.Learnt,
 ) (convert-at t) convert.Post
-convert-mul-xor-share t c = let j = c .before .before .before .before .args .j in omega (arith, products (j - 1) (j - 1 - 1) (omega arith) (omega arith))
-
-convert-add-xor-share : (t : ℕ) → convert-lts.Need-add-xor-share (
-  bit-reads.Asked,
-  bit-reads.Learnt,
-  one-share-reads.Asked,
-  one-share-reads.Learnt,
-  convert-below t,
-  convert.Post,
-  xor-share-reads.Asked,
-  xor-share-reads.Learnt,
-) (convert-at t) convert.Post
-convert-add-xor-share t c = let s = c .before .before .before .before in
-    let e = pairs-half (s .args .j - 1) in
-    let f = pairs-step (s .args .j) (s .args .j - 1) (omega arith) in
-    omega (arith, s .pre .1 .4 .room)
+convert-mul-xor-share t c =
+    let j = c .before .before .before .before .before .args .j in
+    omega (arith, products (j - 1) (j - 1 - 1) (omega arith) (omega arith))
 
 convert-xor-share-requires : (t : ℕ) → convert-lts.Need-xor-share-requires (
   bit-reads.Asked,
@@ -197,7 +176,8 @@ convert-xor-share-requires : (t : ℕ) → convert-lts.Need-xor-share-requires (
   xor-share-reads.Asked,
   xor-share-reads.Learnt,
 ) (convert-at t) convert.Post
-convert-xor-share-requires t c κs = let s = c .before .before .before .before in
+convert-xor-share-requires t c κs =
+    let s = c .before .before .before .before .before in
     let e = pairs-half (s .args .j - 1) in
     let f = pairs-step (s .args .j) (s .args .j - 1) (omega arith) in
     let h = s .pre .1 .3 .large in
@@ -205,11 +185,11 @@ convert-xor-share-requires t c κs = let s = c .before .before .before .before i
       omega arith,
       rw (c .bit2 .ensures) (bit-lt _ _),
       s .pre .1 .3,
-      holds-below _ _ _ _ _ (omega arith) (omega arith) (list t (c .before .before)),
+      holds-below _ _ _ _ _ (omega arith) (omega arith) (c .before .before .convert .ensures),
       drawn-part _ (pairs (s .args .j - 1)) _ (omega arith) (omega arith) (s .pre .1 .4),
     )
 
-convert-returns : (t : ℕ) → convert-lts.Need-returns (
+convert-returns-2 : (t : ℕ) → convert-lts.Need-returns-2 (
   bit-reads.Asked,
   bit-reads.Learnt,
   one-share-reads.Asked,
@@ -219,11 +199,12 @@ convert-returns : (t : ℕ) → convert-lts.Need-returns (
   xor-share-reads.Asked,
   xor-share-reads.Learnt,
 ) (convert-at t) convert.Post
-convert-returns t c = let s = c .before .before .before .before .before .args in
+convert-returns-2 t c =
+    let s = c .before .before .before .before .before .before .args in
     let k = s .j - 1 in
-    let e : s .start + k * (k - 1) / 2 ≡ s .start + pairs k = omega (arith, pairs-half k) in
-    share-added _ _ _ _ _ _ _ _ _ (omega arith) (omega arith) (ap (λ (p : ℕ). after p (at (s .words .now))) e ∙ sym (after-after (s .start) (pairs k) (at (s .words .now))))
-    (c .before .bit2 .ensures) (list t (c .before .before .before)) (c .xor-share .ensures)
+    let e : k * (k - 1) / 2 ≡ pairs k = omega (arith, pairs-half k) in
+    share-added _ _ _ _ _ _ _ _ _ (omega arith) (omega arith) (ap (λ (p : ℕ). after p (at (s .words .now))) e) (c .before .bit2 .ensures)
+    (c .before .before .before .convert .ensures) (c .xor-share .ensures)
 
 pub +convert-spec : {M : Type 1} → statement M
 +convert-spec = close μ-convert λ t. convert-lts.spec (
@@ -238,16 +219,16 @@ pub +convert-spec : {M : Type 1} → statement M
 )
     (convert-at t)
     convert.Post
-    (convert-sub-k t)
     (convert-element-copy-out-bit t)
     (convert-bit-requires t)
     (convert-one-share-requires t)
+    (convert-returns t)
+    (convert-sub-k t)
     (convert-convert-requires t)
     (convert-mul-bit t)
     (convert-element-copy-out-bit-2 t)
     (convert-bit-requires-2 t)
     (convert-sub-xor-share t)
     (convert-mul-xor-share t)
-    (convert-add-xor-share t)
     (convert-xor-share-requires t)
-    (convert-returns t)
+    (convert-returns-2 t)

@@ -89,8 +89,11 @@ sub-check-words c = omega (arith, bounds (c .before .before .before .before .bef
 mul-check-words : tie.Need-mul-check-words
 mul-check-words c = omega (arith, bounds (c .before .before .before .before .before))
 
+cast-check-words : tie.Need-cast-check-words
+cast-check-words c = omega (arith, bounds (c .before .before .before .before .before))
+
 check-words-requires : tie.Need-check-words-requires
-check-words-requires c κs = omega (arith, bounds (c .before .before .before .before .before))
+check-words-requires c κs = search needs
 
 enum-known-r : tie.Need-enum-known-r
 enum-known-r c = search needs
@@ -130,6 +133,7 @@ check-bit-spec =
     enum-told
     sub-check-words
     mul-check-words
+    cast-check-words
     check-words-requires
     enum-known-r
     returns-5

@@ -1,17 +1,19 @@
--- The checks' verdict; a refusal comes before anything is written, and behind the checks the bit is a string of one bit.
+-- The checks' verdict; a refusal comes before anything is written, and behind the checks the bit is converted.
 use mathlib.Core.Path.{_∙_, ap}
-use Prim.Native.Nat.{_-_}
+use mathlib.Core.List.{List}
+use Prim.Native.Nat.{ℕ, _-_, _<_}
 use native.Mathlib.Omega.{arith}
 use lib.ListN.{length}
 use Rattle.checks.specs.declared.Answer.the-variants.{Done}
 use Rattle.checks.specs.Answers.{outcome}
 use Rattle.checks.specs.Laws.{Hold, checks-hold, settles-accepted, settles-refused}
 use Rattle.buffers.specs.Overwrite.{overwrite}
+use Rattle.buffers.specs.Positions.{at, Same}
+use Rattle.buffers.specs.PositionLaws.{front-same}
 use Rattle.conversion.specs.Conversion.{bitChecks, converted}
 use Rattle.conversion.specs.Accepted.{SharedBit, call-sharing, call-room, call-drawn}
-use Rattle.conversion.specs.Arrays.{drawn-part}
 use Rattle.conversion.specs.SecrecyProof.{bit-secrecy}
-use Rattle.conversion.proofs.Steps.{products, one-row}
+use Rattle.conversion.proofs.Steps.{products, bit-alone}
 use borrow.Author.Needs.{needs}
 use Rattle.conversion.proofs.convert_bit.Statement.{statement}
 use Rattle.conversion.proofs.convert_bit.Tie as tie
@@ -21,6 +23,14 @@ holds c = checks-hold _ _ (c .before .before .check-bit .ensures) (c .enum-told 
 
 shared : (c : tie.After-enum-told) → let a = c .before .before .before .before .before .before .args in SharedBit (a .n) (a .q) (a .bits .now)
 shared c = call-sharing _ _ _ _ _ (holds c)
+
+-- the shares stand in front of the array
+gathered : (c : tie.After-copy-eight) → let a = c .before .before .before .before .before .before .before .before .args in Same (a .n) (at (c .copy-eight .last .0)) (at (a .bits .now))
+gathered c =
+    let a = c .before .before .before .before .before .before .before .before .args in
+    let s = shared (c .before .before) in
+    let e : (i : ℕ) → i < a .n → i < length (a .bits .now) = λ i l. omega (arith, s .count) in
+    λ i l. ap (λ (p : List ℕ). at p i) (c .copy-eight .ensures) ∙ front-same _ (a .bits .now) 8 (omega (arith, s .count, s .eight)) i (e i l)
 
 check-bit-requires : tie.Need-check-bit-requires
 check-bit-requires c κs = search needs
@@ -35,17 +45,26 @@ returns c = (settles-refused _ _ (c .before .before .before .check-bit .ensures)
 enum-told : tie.Need-enum-told
 enum-told c = search needs
 
-convert-string-requires : tie.Need-convert-string-requires
-convert-string-requires c κs = let h = holds (c .before) in
-    let s = shared (c .before) in
-    (s .two, s .eight, omega arith, record { large = s .modulus; small = omega arith }, s .count, drawn-part 0 0 _ (omega arith) (omega arith) (call-drawn _ _ _ _ _ h), omega (arith, call-room _ _ _ _ _ h))
+slice-aggregate-copy-eight : tie.Need-slice-aggregate-copy-eight
+slice-aggregate-copy-eight c = search needs
 
-sub-t8 : tie.Need-sub-t8
-sub-t8 c = omega (arith, shared (c .before .before .before .before) .two)
+copy-eight-requires : tie.Need-copy-eight-requires
+copy-eight-requires c κs = search needs
 
-mul-t12 : tie.Need-mul-t12
-mul-t12 c = let s = shared (c .before .before .before .before) in
-    let n = c .before .before .before .before .before .before .before .before .before .before .args .n in
+convert-at-requires : tie.Need-convert-at-requires
+convert-at-requires c κs =
+    let t = c .before .before .before .before .before in
+    let h = holds t in
+    let s = shared t in
+    (s .two, s .eight, omega arith, record { large = s .modulus; small = omega arith }, call-drawn _ _ _ _ _ h, omega (arith, call-room _ _ _ _ _ h))
+
+sub-t9 : tie.Need-sub-t9
+sub-t9 c = omega (arith, shared (c .before .before .before .before .before .before .before .before) .two)
+
+mul-t16 : tie.Need-mul-t16
+mul-t16 c =
+    let s = shared (c .before .before .before .before .before .before .before .before) in
+    let n = c .before .before .before .before .before .before .before .before .before .before .before .before .before .before .args .n in
     omega (arith, products n (n - 1) (s .eight) (omega (arith, s .eight)))
 
 same-length : tie.Need-same-length
@@ -53,10 +72,12 @@ same-length c = search needs
 
 returns-2 : tie.Need-returns-2
 unfolding converted
-returns-2 c = let a = c .before .before .before .before .before .before .before .before .before .before .args in
-    let s = shared (c .before .before .before .before) in (
-      ap (outcome (Done _)) (c .before .before .convert-string .ensures ∙ ap (overwrite (a .out .now) 0) (one-row (a .n) (a .q) (a .bits .now) (a .words .now) (s .modulus) (omega (arith, s .two)) (s .below)))
-          ∙ settles-accepted _ _ (c .before .before .before .before .before .before .check-bit .ensures) _ _ _ (c .before .before .before .before .enum-told .given .1),
+returns-2 c =
+    let a = c .before .before .before .before .before .before .before .before .before .before .before .before .before .before .args in
+    let s = shared (c .before .before .before .before .before .before .before .before) in
+    let e = c .before .before .before .before .before .before in (
+      ap (outcome (Done _)) (c .before .before .convert-at .ensures ∙ ap (overwrite (a .out .now) 0) (bit-alone (a .n) (a .q) (a .bits .now) (a .words .now) (e .copy-eight .last .0) (s .modulus) (omega (arith, s .two)) (s .below) (gathered e)))
+          ∙ settles-accepted _ _ (c .before .before .before .before .before .before .before .before .before .before .check-bit .ensures) _ _ _ (c .before .before .before .before .before .before .before .before .enum-told .given .1),
       bit-secrecy _ _,
     )
 
@@ -68,8 +89,10 @@ convert-bit-spec =
     enum-known-r
     returns
     enum-told
-    convert-string-requires
-    sub-t8
-    mul-t12
+    slice-aggregate-copy-eight
+    copy-eight-requires
+    convert-at-requires
+    sub-t9
+    mul-t16
     same-length
     returns-2)

@@ -1,7 +1,6 @@
 -- One answer for each check: those before it held, and it fails.
 use mathlib.Core.Path.{sym, _∙_}
 use mathlib.Core.List.{List}
-use Prim.Native.Nat.{_≤_}
 use native.Mathlib.Omega.{arith}
 use borrow.Author.Tests.{le-leb, lt-leb, eq-eqb, ne-eqb}
 use borrow.Author.Needs.{needs}
@@ -34,10 +33,6 @@ past6 c =
     let a = c .before .before .before .before .before .before .before .before .before .before .before .before .args in
     past5 (c .before) ∙ pass tt _ _ (le-leb (a .n) (a .room) (omega arith))
 
--- check 2 held
-k-at-most : (c : tie.Else2) → c .before .before .before .before .before .args .k ≤ 16
-k-at-most c = within-true 1 16 (c .before .before .before .before .before .args .k) (test-holds (c .before .within2 .ensures) (c .if2 .left)) .1
-
 within-requires : tie.Need-within-requires
 within-requires c κs = search needs
 
@@ -57,7 +52,7 @@ returns-2 : tie.Need-returns-2
 returns-2 c = c .refuse2 .ensures ∙ sym (past1 (c .before .before .before) ∙ fail tt _ _ (test-fails (c .before .before .within2 .ensures) (c .before .if2 .taken)))
 
 is-narrow-requires : tie.Need-is-narrow-requires
-is-narrow-requires c κs = omega (arith, k-at-most c)
+is-narrow-requires c κs = search needs
 
 refuse-requires-3 : tie.Need-refuse-requires-3
 refuse-requires-3 c κs = search needs
@@ -75,7 +70,7 @@ returns-4 : tie.Need-returns-4
 returns-4 c = c .refuse4 .ensures ∙ sym (past3 (c .before .before) ∙ fail tt _ _ (ne-eqb _ _ (c .before .if4 .taken)))
 
 first-wide-requires : tie.Need-first-wide-requires
-first-wide-requires c κs = k-at-most (c .before .before .before)
+first-wide-requires c κs = search needs
 
 enum-known-i : tie.Need-enum-known-i
 enum-known-i c = search needs

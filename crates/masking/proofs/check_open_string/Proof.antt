@@ -1,11 +1,10 @@
 -- One answer for each check: those before it held, and it fails.
 use mathlib.Core.Path.{sym, _∙_}
 use mathlib.Core.List.{List}
-use Prim.Native.Nat.{_≤_}
 use borrow.Author.Tests.{eq-eqb, ne-eqb}
 use borrow.Author.Needs.{needs}
 use Rattle.checks.specs.Checks.{Check}
-use Rattle.checks.specs.Laws.{Past, pass, fail, pass-none, fail-some, pass-all, test-holds, test-fails, search-none, search-some, within-true}
+use Rattle.checks.specs.Laws.{Past, pass, fail, pass-none, fail-some, pass-all, test-holds, test-fails, search-none, search-some}
 use Rattle.masking.specs.Sharing.{openStringChecks}
 use Rattle.masking.proofs.check_open_string.Statement.{statement}
 use Rattle.masking.proofs.check_open_string.Tie as tie
@@ -24,10 +23,6 @@ past3 c = past2 (c .before) ∙ pass tt _ _ (eq-eqb _ _ (c .if3 .left))
 
 past4 : (c : tie.After-enum-told) → Past (checks (c .before .before .before .before .before .before .before .before .before)) 4
 past4 c = past3 (c .before .before .before) ∙ pass-none tt _ _ _ _ (search-none (c .before .before .first-wide .ensures) (c .enum-told .given .1))
-
--- check 2 held
-k-at-most : (c : tie.Else2) → c .before .before .before .before .before .args .k ≤ 16
-k-at-most c = within-true 1 16 (c .before .before .before .before .before .args .k) (test-holds (c .before .within2 .ensures) (c .if2 .left)) .1
 
 within-requires : tie.Need-within-requires
 within-requires c κs = search needs
@@ -54,7 +49,7 @@ returns-3 : tie.Need-returns-3
 returns-3 c = c .refuse3 .ensures ∙ sym (past2 (c .before .before) ∙ fail tt _ _ (ne-eqb _ _ (c .before .if3 .taken)))
 
 first-wide-requires : tie.Need-first-wide-requires
-first-wide-requires c κs = k-at-most (c .before)
+first-wide-requires c κs = search needs
 
 enum-known-i : tie.Need-enum-known-i
 enum-known-i c = search needs

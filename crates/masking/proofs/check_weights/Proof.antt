@@ -1,10 +1,9 @@
 -- One answer for each check: those before it held, and it fails.
 use mathlib.Core.Path.{sym, _∙_}
 use mathlib.Core.List.{List}
-use Prim.Native.Nat.{_≤_}
 use borrow.Author.Needs.{needs}
 use Rattle.checks.specs.Checks.{Check}
-use Rattle.checks.specs.Laws.{Past, pass, fail, pass-all, test-holds, test-fails, within-true}
+use Rattle.checks.specs.Laws.{Past, pass, fail, pass-all, test-holds, test-fails}
 use Rattle.masking.specs.Signed.{weightChecks}
 use Rattle.masking.proofs.check_weights.Statement.{statement}
 use Rattle.masking.proofs.check_weights.Tie as tie
@@ -21,10 +20,6 @@ past2 c = past1 (c .before .before) ∙ pass tt _ _ (test-holds (c .before .is-n
 past3 : (c : tie.Else3) → Past (checks (c .before .before .before .before .before .before)) 3
 past3 c = past2 (c .before .before) ∙ pass tt _ _ (test-holds (c .before .is-narrow2 .ensures) (c .if3 .left))
 
--- check 2 held
-k-at-most : (c : tie.Else1) → c .before .before .args .k ≤ 16
-k-at-most c = within-true 1 16 (c .before .before .args .k) (test-holds (c .before .within .ensures) (c .if1 .left)) .1
-
 within-requires : tie.Need-within-requires
 within-requires c κs = search needs
 
@@ -35,7 +30,7 @@ returns : tie.Need-returns
 returns c = c .refuse .ensures ∙ sym (fail tt _ _ (test-fails (c .before .before .within .ensures) (c .before .if1 .taken)))
 
 is-narrow-requires : tie.Need-is-narrow-requires
-is-narrow-requires c κs = k-at-most c
+is-narrow-requires c κs = search needs
 
 refuse-requires-2 : tie.Need-refuse-requires-2
 refuse-requires-2 c κs = search needs
@@ -44,7 +39,7 @@ returns-2 : tie.Need-returns-2
 returns-2 c = c .refuse2 .ensures ∙ sym (past1 (c .before .before .before) ∙ fail tt _ _ (test-fails (c .before .before .is-narrow .ensures) (c .before .if2 .taken)))
 
 is-narrow-requires-2 : tie.Need-is-narrow-requires-2
-is-narrow-requires-2 c κs = k-at-most (c .before .before)
+is-narrow-requires-2 c κs = search needs
 
 refuse-requires-3 : tie.Need-refuse-requires-3
 refuse-requires-3 c κs = search needs

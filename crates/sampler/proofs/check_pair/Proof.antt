@@ -1,11 +1,10 @@
 -- One answer for each check: those before it held, and it fails.
 use mathlib.Core.Path.{sym, _∙_}
 use mathlib.Core.List.{List}
-use Prim.Native.Nat.{_≤_}
 use borrow.Author.Tests.{eq-eqb, ne-eqb}
 use borrow.Author.Needs.{needs}
 use Rattle.checks.specs.Checks.{Check}
-use Rattle.checks.specs.Laws.{Past, pass, fail, pass-none, fail-some, pass-all, search-none, search-some, checks-hold, part-passed, part-failed, within-true}
+use Rattle.checks.specs.Laws.{Past, pass, fail, pass-none, fail-some, pass-all, search-none, search-some, part-passed, part-failed}
 use Rattle.sampler.specs.Sampler.{pairChecks}
 use Rattle.sampler.proofs.check_pair.Statement.{statement}
 use Rattle.sampler.proofs.check_pair.Tie as tie
@@ -27,12 +26,6 @@ past6 c = past5 (c .before .before .before) ∙ pass-none tt _ _ _ _ (search-non
 
 past7 : (c : tie.After-enum-told3) → Past (checks (c .before .before .before .before .before .before .before .before .before .before .before .before .before)) 7
 past7 c = past6 (c .before .before .before) ∙ pass-none tt _ _ _ _ (search-none (c .before .before .first-wide2 .ensures) (c .enum-told3 .given .1))
-
--- check 2 held
-sixteen : (c : tie.After-enum-told) → c .before .before .before .before .before .args .k ≤ 16
-sixteen c =
-    let h = checks-hold _ _ (c .before .before .check-parameters .ensures) (c .enum-told .given .1) in
-    within-true 1 16 _ (h .1 .0) .1
 
 check-parameters-requires : tie.Need-check-parameters-requires
 check-parameters-requires c κs = search needs
@@ -59,7 +52,7 @@ returns-3 : tie.Need-returns-3
 returns-3 c = c .refuse2 .ensures ∙ sym (past4 (c .before .before) ∙ fail tt _ _ (ne-eqb _ _ (c .before .if2 .taken)))
 
 first-wide-requires : tie.Need-first-wide-requires
-first-wide-requires c κs = sixteen (c .before .before)
+first-wide-requires c κs = search needs
 
 enum-known-i : tie.Need-enum-known-i
 enum-known-i c = search needs
@@ -74,7 +67,7 @@ enum-told-2 : tie.Need-enum-told-2
 enum-told-2 c = search needs
 
 first-wide-requires-2 : tie.Need-first-wide-requires-2
-first-wide-requires-2 c κs = sixteen (c .before .before .before .before .before)
+first-wide-requires-2 c κs = search needs
 
 enum-known-i-2 : tie.Need-enum-known-i-2
 enum-known-i-2 c = search needs

@@ -48,14 +48,20 @@ enum-told c = search needs
 mul-check-words : tie.Need-mul-check-words
 mul-check-words c = omega (arith, sizes c)
 
+cast-check-words : tie.Need-cast-check-words
+cast-check-words c = omega (arith, pair c .sixteen)
+
 sub-check-words : tie.Need-sub-check-words
 sub-check-words c = omega (arith, pair c .two)
 
 mul-check-words-2 : tie.Need-mul-check-words-2
 mul-check-words-2 c = omega (arith, sizes c)
 
+cast-check-words-2 : tie.Need-cast-check-words-2
+cast-check-words-2 c = omega (arith, sizes c)
+
 check-words-requires : tie.Need-check-words-requires
-check-words-requires c κs = omega (arith, sizes c)
+check-words-requires c κs = search needs
 
 enum-known-r-2 : tie.Need-enum-known-r-2
 enum-known-r-2 c = search needs
@@ -96,8 +102,10 @@ check-sample-spec =
     returns
     enum-told
     mul-check-words
+    cast-check-words
     sub-check-words
     mul-check-words-2
+    cast-check-words-2
     check-words-requires
     enum-known-r-2
     returns-2
