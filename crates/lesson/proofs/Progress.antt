@@ -13,12 +13,11 @@ use Rattle.lesson.specs.Text.{sampleLine, linesFrom}
 use Rattle.text.specs.Laws.{wrote-nothing, wrote-then}
 use Rattle.lesson.specs.Call.{SampleBuffers, sampledIn, afterLesson}
 use Rattle.lesson.specs.LessonLaws.{lines-sample, after-sample, lines-end, after-end}
-use Rattle.lesson_file.specs.Layouts.{layout-end, layout-longer}
+use Rattle.lesson_file.specs.Layouts.{layout-longer}
 
 -- `done` is written; the lesson from position p on, numbered from `number`, is still to come
 pub record Progress (file : List ℕ) (first : SampleBuffers) (text : List ℕ) (start : ℕ) (now : SampleBuffers) (written : List ℕ) (p number end : ℕ) : Type 0 where
   pub done : List ℕ
-  pub within : p ≤ length file
   pub counted : number ≤ p + 1
   pub wrote : Wrote text start done written end
   pub lines : done ++ linesFrom number (lessonFrom file p) ≡ linesFrom 1 (lessonFrom file 0)
@@ -26,7 +25,7 @@ pub record Progress (file : List ℕ) (first : SampleBuffers) (text : List ℕ) 
 
 module _ (file : List ℕ) (first : SampleBuffers) (text : List ℕ) (start : ℕ) where
   pub begun : Progress file first text start first text 0 1 start
-  begun = record { done = []; within = omega arith; counted = omega arith; wrote = wrote-nothing text start; lines = refl; buffers = refl }
+  begun = record { done = []; counted = omega arith; wrote = wrote-nothing text start; lines = refl; buffers = refl }
 
   module _ (now : SampleBuffers) (written : List ℕ) (p number end : ℕ) (g : Progress file first text start now written p number end) where
     -- there is room for the rest
@@ -55,7 +54,6 @@ module _ (file : List ℕ) (first : SampleBuffers) (text : List ℕ) (start : �
           rw (i, j, add-one number)
           record {
             done = g .done ++ line;
-            within = layout-end file p h;
             counted = omega (arith, g .counted, layout-longer file p);
             wrote = wrote-then _ _ _ _ (g .wrote) w;
             lines = append-assoc (g .done) line _ ∙ ap (λ l. g .done ++ l) (sym (lines-sample file p o h f number)) ∙ g .lines;

@@ -104,7 +104,7 @@ fn next_sample(
     out: &mut [Word],
     work: &mut [Word],
 ) -> SampleAnswer
-    requires { ⌜ (cursor .at ≤ length (now file)) × SampleRoom (length (now words)) (length (now out)) (length (now work)) ⌝ }
+    requires { ⌜ SampleRoom (length (now words)) (length (now out)) (length (now work)) ⌝ }
     ensures { λ r. ⌜ sampleOutcome r (sampleBuffers (now (words .exit)) (now (out .exit)) (now (work .exit))) ≡ nextSample (now (file .entry)) (sampleBuffers (now (words .entry)) (now (out .entry)) (now (work .entry))) (cursor .at) ⌝ }
 {
     match cursor.read_sample(file) {

@@ -3,6 +3,7 @@ use mathlib.Core.Path.{_≡_, refl, sym, ap, _∙_}
 use mathlib.Core.Bool.{Bool, true, false, cond, _&&_}
 use mathlib.Core.List.{List, [], _∷_}
 use Prim.Native.Nat.{ℕ, _+_, _*_, _-_, _≤_, _<_}
+use native.Mathlib.Decide.{decLe}
 use native.Mathlib.Omega.{arith}
 use borrow.Author.Tests.{le-leb, lt-leb, eq-eqb, ne-eqb}
 use lib.Dec.{leb, eqb}
@@ -33,17 +34,21 @@ module _ (file : List ℕ) (p : ℕ) (mark : List ℕ) where
   unfolding marked
   letter-agrees h = sym (ap (λ (b : Bool). b && eqb (at file (p + 1)) (at mark 1)) (eq-eqb _ _ h))
 
-  pub mark-missing : length file ≤ p + 1 → eqb 0 (at mark 1) ≡ false → false ≡ marked file p mark
+  pub mark-missing : length file < p + 2 → eqb 0 (at mark 1) ≡ false → false ≡ marked file p mark
   unfolding marked
-  mark-missing h e = sym (ap (λ (b : Bool). eqb (at file p) (at mark 0) && b) (ap (λ (a : ℕ). eqb a (at mark 1)) (List·getD-eq-default file 0 h) ∙ e) ∙ and-false (eqb (at file p) (at mark 0)))
+  mark-missing h e = sym (ap (λ (b : Bool). eqb (at file p) (at mark 0) && b) (ap (λ (a : ℕ). eqb a (at mark 1)) (List·getD-eq-default file 0 (omega arith)) ∙ e) ∙ and-false (eqb (at file p) (at mark 0)))
 
--- `size` bytes are left from p on, or not
+-- `size` bytes from p on
 module _ (bytes p size : ℕ) where
-  pub bytes-left : p ≤ bytes → size ≤ bytes - p → leb (p + size) bytes ≡ true
-  bytes-left h l = le-leb (p + size) bytes (omega arith)
+  pub bytes-left : p ≤ bytes → leb size (bytes - p) ≡ leb (p + size) bytes
+  bytes-left h = go (decLe size (bytes - p))
+    where
+      go : Dec (size ≤ bytes - p) → leb size (bytes - p) ≡ leb (p + size) bytes
+      go (yes l) = le-leb size (bytes - p) l ∙ sym (le-leb (p + size) bytes (omega arith))
+      go (no l) = lt-leb size (bytes - p) (omega arith) ∙ sym (lt-leb (p + size) bytes (omega arith))
 
-  pub bytes-missing : bytes - p < size → leb (p + size) bytes ≡ false
-  bytes-missing h = lt-leb (p + size) bytes (omega arith)
+  pub bytes-missing : bytes < p → false ≡ leb (p + size) bytes
+  bytes-missing h = sym (lt-leb (p + size) bytes (omega arith))
 
 -- the two lists, if YB comes first or not
 module _ (file : List ℕ) (p n : ℕ) where

@@ -9,7 +9,7 @@ ghost use lib.ListN.{length};
 ghost use Rattle.buffers.specs.Overwrite.{overwrite};
 ghost use Rattle.checks.specs.Checks.{checked, verdict};
 ghost use Rattle.checks.specs.Answers.{checkedReading, answerReading};
-ghost use Rattle.lesson_file.specs.Records.{number, wordsFrom, marked, recordChecks, parametersAt, parametersChecks, yFirst, orderedChecks, listsAt, listsChecks, wordCount, wordsChecks, stringsChecks, layoutFrom, layoutRead};
+ghost use Rattle.lesson_file.specs.Records.{number, wordsFrom, marked, whole, recordChecks, parametersAt, parametersChecks, yFirst, orderedChecks, listsAt, listsChecks, wordCount, wordsChecks, stringsChecks, layoutFrom, layoutRead};
 ghost use Rattle.lesson_file.specs.Answers.{parametersReading, listsReading, sampleReading};
 
 // Where a record begins.
@@ -86,19 +86,27 @@ fn has_mark(file: &[u8], at: usize, mark: [u8; 2]) -> bool
     file[at + 1] == mark[1]
 }
 
+// Whether the file has `size` bytes from the position on, which may lie anywhere.
+fn has_bytes(file: &[u8], at: usize, size: usize) -> bool
+    ensures { λ r. ⌜ r ≡ whole (now (file .entry)) at size .holds ⌝ }
+{
+    if at <= file.len() {
+        return size <= file.len() - at;
+    }
+    false
+}
+
 // A whole mark, this one, and all the bytes of the record.
 fn check_record(file: &[u8], at: usize, mark: [u8; 2], size: usize) -> Checked
-    requires { ⌜ at ≤ length (now file) ⌝ }
     ensures { λ r. ⌜ checkedReading r ≡ checked (recordChecks (now (file .entry)) at mark size) ⌝ }
 {
-    let left = file.len() - at;
-    if left < 2 {
+    if !has_bytes(file, at, 2) {
         return checks::refuse(checks::CUT_SHORT, at);
     }
     if !has_mark(file, at, mark) {
         return checks::refuse(checks::MARK, at);
     }
-    if left < size {
+    if !has_bytes(file, at, size) {
         return checks::refuse(checks::CUT_SHORT, at);
     }
     Checked::Passed
@@ -106,7 +114,7 @@ fn check_record(file: &[u8], at: usize, mark: [u8; 2], size: usize) -> Checked
 
 // XB and YB, of which `first` begins at the position.
 fn check_lists(file: &[u8], at: usize, n: usize, first: [u8; 2], second: [u8; 2]) -> Checked
-    requires { ⌜ (at ≤ length (now file)) × (n ≤ 8) ⌝ }
+    requires { ⌜ n ≤ 8 ⌝ }
     ensures { λ r. ⌜ checkedReading r ≡ checked (orderedChecks (now (file .entry)) at n first second) ⌝ }
 {
     let size = 2 + 2 * n;
@@ -118,19 +126,17 @@ fn check_lists(file: &[u8], at: usize, n: usize, first: [u8; 2], second: [u8; 2]
 
 // Whether YB comes first.
 fn is_y_first(file: &[u8], at: usize) -> bool
-    requires { ⌜ at ≤ length (now file) ⌝ }
     ensures { λ r. ⌜ r ≡ yFirst (now (file .entry)) at ⌝ }
 {
-    if file.len() - at < 2 {
-        return false;
+    if has_bytes(file, at, 2) {
+        return has_mark(file, at, YB);
     }
-    has_mark(file, at, YB)
+    false
 }
 
 impl Cursor {
     // PM, put to checks 1, 2 and 3.
     fn read_parameters(self, file: &[u8]) -> ParametersRead
-        requires { ⌜ self .at ≤ length (now file) ⌝ }
         ensures { λ r. ⌜ parametersReading r ≡ verdict (parametersChecks (now (file .entry)) (self .at)) (parametersAt (now (file .entry)) (self .at)) ⌝ }
     {
         let at = self.at;
@@ -151,36 +157,35 @@ impl Cursor {
 
     // XB and YB, in either order.
     fn read_lists(self, file: &[u8], n: usize) -> ListsRead
-        requires { ⌜ (self .at ≤ length (now file)) × (n ≤ 8) ⌝ }
+        requires { ⌜ n ≤ 8 ⌝ }
         ensures { λ r. ⌜ listsReading r ≡ verdict (listsChecks (now (file .entry)) (self .at) n) (listsAt (now (file .entry)) (self .at) n) ⌝ }
     {
         let at = self.at;
         let size = 2 + 2 * n;
-        let second = at + size;
-        let next = Cursor { at: second + size };
         if is_y_first(file, at) {
             if let Checked::Failed(r) = check_lists(file, at, n, YB, XB) {
                 return ListsRead::Refused(r);
             }
+            let second = at + size;
             return ListsRead::Whole(Lists {
                 x: second,
                 y: at,
-                next: next,
+                next: Cursor { at: second + size },
             });
         }
         if let Checked::Failed(r) = check_lists(file, at, n, XB, YB) {
             return ListsRead::Refused(r);
         }
+        let second = at + size;
         ListsRead::Whole(Lists {
             x: at,
             y: second,
-            next: next,
+            next: Cursor { at: second + size },
         })
     }
 
     // RW: answers the count of its words.
     fn read_words(self, file: &[u8]) -> Answer
-        requires { ⌜ self .at ≤ length (now file) ⌝ }
         ensures { λ r. ⌜ answerReading r ≡ verdict (wordsChecks (now (file .entry)) (self .at)) (wordCount (now (file .entry)) (self .at)) ⌝ }
     {
         let at = self.at;
@@ -194,7 +199,7 @@ impl Cursor {
                 position: at,
             });
         }
-        if file.len() - at < 4 + 2 * count {
+        if !has_bytes(file, at, 4 + 2 * count) {
             return Answer::Refused(Refusal {
                 code: checks::CUT_SHORT,
                 position: at,
@@ -205,7 +210,7 @@ impl Cursor {
 
     // XB, YB and RW, behind these parameters.
     fn read_strings(self, file: &[u8], parameters: Parameters) -> SampleRead
-        requires { ⌜ (self .at ≤ length (now file)) × (parameters .n ≤ 8) ⌝ }
+        requires { ⌜ parameters .n ≤ 8 ⌝ }
         ensures { λ r. ⌜ sampleReading r ≡ verdict (stringsChecks (now (file .entry)) (self .at) (parameters .n)) (layoutFrom (now (file .entry)) (self .at) parameters) ⌝ }
     {
         match self.read_lists(file, parameters.n) {
@@ -224,9 +229,8 @@ impl Cursor {
         }
     }
 
-    // The records of a sample: PM, XB and YB in either order, RW.
+    // The records of a sample: PM, XB and YB in either order, RW. Past the end of the file no mark is whole: 19 at the cursor.
     pub fn read_sample(self, file: &[u8]) -> SampleRead
-        requires { ⌜ self .at ≤ length (now file) ⌝ }
         ensures { λ r. ⌜ sampleReading r ≡ layoutRead (now (file .entry)) (self .at) ⌝ }
     {
         match self.read_parameters(file) {

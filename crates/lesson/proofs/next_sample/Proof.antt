@@ -43,9 +43,10 @@ same-length-3 c = search needs
 
 returns-2 : tie.Need-returns-2
 returns-2 c =
-    c .before .before .before .before .before .before .make-sample .ensures
-    ∙ ap (sampleJudged (c .before .before .before .before .before .before .before .before .before .before .before .before .before .before .before .before .before .before .args .file .now) (sampleBuffers (c .before .before .before .before .before .before .before .before .before .before .before .before .before .before .before .before .before .before .args .words .now) (c .before .before .before .before .before .before .before .before .before .before .before .before .before .before .before .before .before .before .args .out .now) (c .before .before .before .before .before .before .before .before .before .before .before .before .before .before .before .before .before .before .args .work .now))) (layout (c .before .before .before .before .before .before .before .before .before .before .before))
-    ∙ sym (next-read (c .before .before .before .before .before .before .before .before .before .before .before .before .before .before .before .before .before .before .args .file .now) (c .before .before .before .before .before .before .before .before .before .before .before .before .before .before .before .before .before .before .args .cursor .at) (sampleBuffers (c .before .before .before .before .before .before .before .before .before .before .before .before .before .before .before .before .before .before .args .words .now) (c .before .before .before .before .before .before .before .before .before .before .before .before .before .before .before .before .before .before .args .out .now) (c .before .before .before .before .before .before .before .before .before .before .before .before .before .before .before .before .before .before .args .work .now)) (holds (c .before .before .before .before .before .before .before .before .before .before .before)))
+    let a = c .before .before .before .before .before .before .before .before .before .before .before .before .before .before .before .before .before .before .args in
+    let b = sampleBuffers (a .words .now) (a .out .now) (a .work .now) in
+    let d = c .before .before .before .before .before .before .before .before .before .before .before in
+    c .before .before .before .before .before .before .make-sample .ensures ∙ ap (sampleJudged (a .file .now) b) (layout d) ∙ sym (next-read (a .file .now) (a .cursor .at) b (holds d))
 
 pub next-sample-spec : {M : Type 1} → statement M
 next-sample-spec =

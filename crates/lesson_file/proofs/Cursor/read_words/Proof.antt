@@ -7,9 +7,8 @@ use borrow.Author.Tests.{leb-true, le-leb, lt-leb}
 use lib.Dec.{leb}
 use lib.ListN.{length, drop}
 use Rattle.checks.specs.Checks.{Check, accepted, verdict}
-use Rattle.checks.specs.Laws.{pass, fail, pass-all, checks-hold, part-passed, part-failed}
-use Rattle.lesson_file.specs.Records.{wordCount, wordsChecks}
-use Rattle.lesson_file.specs.RecordLaws.{bytes-left, bytes-missing}
+use Rattle.checks.specs.Laws.{pass, fail, pass-all, test-holds, test-fails, checks-hold, part-passed, part-failed}
+use Rattle.lesson_file.specs.Records.{whole, wordCount, wordsChecks}
 use borrow.Author.Needs.{needs}
 use Rattle.lesson_file.proofs.Cursor.read_words.Statement.{statement}
 use Rattle.lesson_file.proofs.Cursor.read_words.Tie as tie
@@ -33,9 +32,9 @@ past4 c = past3 (c .before .before) ∙ pass _ _ _ (ap (λ m. leb m 1792) (sym (
 counted : (c : tie.After-enum-told) → c .before .before .before .before .args .self .at + 4 ≤ length (c .before .before .before .before .args .file .now)
 counted c = leb-true _ _ (checks-hold _ _ (c .before .before .check-record .ensures) (c .enum-told .given .1) .1 .1 .0)
 
--- the file's length against the end of the words
-end : (s : tie.Start) (m : ℕ) → m ≡ count s → leb (s .args .self .at + (4 + 2 * count s)) (length (s .args .file .now)) ≡ leb (s .args .self .at + (4 + 2 * m)) (length (s .args .file .now))
-end s m e = ap (λ m. leb (s .args .self .at + (4 + 2 * m)) (length (s .args .file .now))) (sym e)
+-- whether the words are there, by the count as it was read
+words-there : (c : tie.After-has-bytes) → c .has-bytes .result ≡ whole (c .before .before .before .before .before .before .before .args .file .now) (c .before .before .before .before .before .before .before .args .self .at) (4 + 2 * count (c .before .before .before .before .before .before .before)) .holds
+words-there c = c .has-bytes .ensures ∙ ap (λ m. whole (c .before .before .before .before .before .before .before .args .file .now) (c .before .before .before .before .before .before .before .args .self .at) (4 + 2 * m) .holds) (c .before .before .number-at .ensures)
 
 check-record-requires : tie.Need-check-record-requires
 check-record-requires c κs = search needs
@@ -50,7 +49,7 @@ enum-told : tie.Need-enum-told
 enum-told c = search needs
 
 add-number-at : tie.Need-add-number-at
-add-number-at c = search needs
+add-number-at c = omega (arith, counted c)
 
 number-at-requires : tie.Need-number-at-requires
 number-at-requires c κs = omega (arith, counted c)
@@ -61,20 +60,20 @@ cast-count c = search needs
 returns-2 : tie.Need-returns-2
 returns-2 c = sym (past3 (c .before .before) ∙ fail _ _ _ (ap (λ m. leb m 1792) (sym (c .before .number-at .ensures)) ∙ lt-leb _ _ (c .if1 .taken)))
 
-sub-if2 : tie.Need-sub-if2
-sub-if2 c = search needs
+mul-has-bytes : tie.Need-mul-has-bytes
+mul-has-bytes c = search needs
 
-mul-if2 : tie.Need-mul-if2
-mul-if2 c = search needs
+add-has-bytes : tie.Need-add-has-bytes
+add-has-bytes c = search needs
 
-add-if2 : tie.Need-add-if2
-add-if2 c = search needs
+has-bytes-requires : tie.Need-has-bytes-requires
+has-bytes-requires c κs = search needs
 
 returns-3 : tie.Need-returns-3
-returns-3 c = sym (past4 (c .before) ∙ fail _ _ _ (end (c .before .before .before .before .before .before .before) _ (c .before .before .number-at .ensures) ∙ bytes-missing _ _ _ (c .if2 .taken)))
+returns-3 c = sym (past4 (c .before .before) ∙ fail _ _ _ (test-fails (words-there (c .before)) (c .if2 .taken)))
 
 returns-4 : tie.Need-returns-4
-returns-4 c = ap accepted (c .before .before .number-at .ensures) ∙ sym (past4 (c .before) ∙ pass _ _ _ (end (c .before .before .before .before .before .before .before) _ (c .before .before .number-at .ensures) ∙ bytes-left _ _ _ (c .before .before .before .before .before .before .before .pre) (c .if2 .left)) ∙ pass-all _)
+returns-4 c = ap accepted (c .before .before .before .number-at .ensures) ∙ sym (past4 (c .before .before) ∙ pass _ _ _ (test-holds (words-there (c .before)) (c .if2 .left)) ∙ pass-all _)
 
 pub read-words-spec : {M : Type 1} → statement M
 read-words-spec =
@@ -88,8 +87,8 @@ read-words-spec =
     number-at-requires
     cast-count
     returns-2
-    sub-if2
-    mul-if2
-    add-if2
+    mul-has-bytes
+    add-has-bytes
+    has-bytes-requires
     returns-3
     returns-4)
