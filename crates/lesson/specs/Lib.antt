@@ -8,3 +8,4 @@ pub mod SampleLaws
 pub mod SamplerLaws
 pub mod LessonLaws
 pub mod Room
+pub mod Input

@@ -4,30 +4,77 @@ use libc::STDIN_FILENO;
 use libc::STDOUT_FILENO;
 use residue::Word;
 ghost use mathlib.Core.Path.{_≡_};
-ghost use Prim.Native.Nat.{_≤_};
-ghost use lib.ListN.{length, take};
+ghost use mathlib.Core.Bool.{true};
+ghost use mathlib.Core.List.{List};
+ghost use Prim.Native.Nat.{ℕ, _≤_};
+ghost use lib.ListN.{length, take, replicate};
 ghost use Rattle.lesson.specs.Text.{lessonText};
+ghost use Rattle.lesson.specs.Input.{Read};
 
-// Puts the text of the file in front of `text`, and answers its length. The library refuses no file: there is room for the text of each.
-fn make_text(file: &[u8], words: &mut [Word], text: &mut [u8]) -> usize
-    requires { ⌜ (1792 ≤ length (now words)) × (180045 ≤ length (now text)) ⌝ }
-    ensures { λ r. ⌜ (take r (now (text .exit)) ≡ lessonText (now (file .entry))) × (r ≤ length (now (text .exit))) ⌝ }
+// How many bytes of the input stand in front of the buffer: none if a read failed, wherever in the input.
+struct Input {
+    count: usize,
+    failed: bool,
+}
+
+// Reads until the input ends, the buffer is full or a read fails.
+fn read_input(buffer: &mut [u8]) -> Input
+    ensures { λ r. ⌜ (r .count ≤ length (now (buffer .exit))) × (r .failed ≡ true → r .count ≡ 0) ⌝ }
+{
+    let mut done = 0;
+    while done < buffer.len() {
+        let got = libc::read(STDIN_FILENO, &mut buffer[done..]);
+        if got < 0 {
+            return Input {
+                count: 0,
+                failed: true,
+            };
+        }
+        let more = io::count(got, &buffer[done..]);
+        if more == 0 {
+            break;
+        }
+        done = done + more;
+    }
+    Input {
+        count: done,
+        failed: false,
+    }
+}
+
+// Puts the text of the whole input in front of `text`, and answers its length. A buffer with room for one byte past the limit is enough to know
+// it. The library refuses no file: there is room for the text of each.
+fn make_text(buffer: &[u8], count: usize, words: &mut [Word], text: &mut [u8]) -> usize
+    requires { ⌜ (60001 ≤ length (now buffer)) × (count ≤ length (now buffer)) × (now words ≡ replicate 1792 0) × (180045 ≤ length (now text)) ⌝ }
+    ensures { λ r. ⌜ ((input : List ℕ) → Read input (now (buffer .entry)) count → take r (now (text .exit)) ≡ lessonText input) × (r ≤ length (now (text .exit))) ⌝ }
 {
     let mut out: [Word; 8] = [0; 8];
     let mut work: [Word; 256] = [0; 256];
-    if let Answer::Done(length) = lesson::write_text(file, words, &mut out, &mut work, text) {
+    if let Answer::Done(length) = lesson::write_text(
+        &buffer[..count],
+        words,
+        &mut out,
+        &mut work,
+        text,
+    ) {
         return length;
     }
     0
 }
 
-// Reads to the end of the input, or to one byte past the 60,000 that a lesson file may have. What `make_text` promises is proved; that the
-// bytes read go to it, and its text to standard output, is these lines.
+// What `make_text` promises is proved; that the bytes read go to it, and its text to standard output, is these lines. Why a read failed is said
+// after the text, by the errno that the read left: a write that succeeds keeps it.
 fn main() {
     let mut file = [0u8; 60001];
     let mut words: [Word; 1792] = [0; 1792];
     let mut text = [0u8; 180045];
-    let count = io::read_full(STDIN_FILENO, &mut file);
-    let length = make_text(&file[..count], &mut words, &mut text);
-    io::write_all(STDOUT_FILENO, &text[..length]);
+    let input = read_input(&mut file);
+    let length = make_text(&file, input.count, &mut words, &mut text);
+    if !io::write_all(STDOUT_FILENO, &text[..length]) {
+        os::fail(b"lesson_program: standard output");
+        return;
+    }
+    if input.failed {
+        os::fail(b"lesson_program: standard input");
+    }
 }

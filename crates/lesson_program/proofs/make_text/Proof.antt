@@ -1,15 +1,23 @@
--- The library accepts, and the text stands in front.
+-- The library accepts, and the text stands in front: that of the bytes read, and so of the whole input.
+use mathlib.Core.Path.{sym, ap, _∙_}
+use Prim.Native.Nat.{ℕ, _≤_}
 use native.Mathlib.Omega.{arith}
+use lib.ListN.{length, length-replicate}
+use lib.Seq.{length-take-le}
 use Rattle.lesson.specs.Room.{text-in-front, never-refused}
+use Rattle.lesson.specs.Input.{text-of-input}
 use borrow.Author.Needs.{needs}
 use Rattle.lesson_program.proofs.make_text.Statement.{statement}
 use Rattle.lesson_program.proofs.make_text.Tie as tie
 
 slice-aggregate-write-text : tie.Need-slice-aggregate-write-text
-slice-aggregate-write-text c = search needs
+slice-aggregate-write-text c = sym (length-take-le _ _ (c .before .before .before .before .pre .1))
 
 slice-aggregate-write-text-2 : tie.Need-slice-aggregate-write-text-2
 slice-aggregate-write-text-2 c = search needs
+
+slice-aggregate-write-text-3 : tie.Need-slice-aggregate-write-text-3
+slice-aggregate-write-text-3 c = search needs
 
 write-text-requires : tie.Need-write-text-requires
 write-text-requires c κs = search needs
@@ -24,7 +32,9 @@ same-length-2 : tie.Need-same-length-2
 same-length-2 c = search needs
 
 returns : tie.Need-returns
-returns c = text-in-front _ _ _ _ _ _ _ (c .before .before .before .before .before .before .before .before .before .write-text .ensures) _ (c .before .length .given .1)
+returns c =
+    let s = c .before .before .before .before .before .before .before .before .before .before .before .before .before .before .before .before .before .before in
+    text-of-input (s .args .buffer .now) (s .args .count) (s .pre .0) _ _ (text-in-front _ _ _ _ _ _ _ (c .before .before .before .before .before .before .before .before .before .write-text .ensures) _ (c .before .length .given .1))
 
 enum-told : tie.Need-enum-told
 enum-told c = search needs
@@ -36,7 +46,10 @@ same-length-4 : tie.Need-same-length-4
 same-length-4 c = search needs
 
 returns-2 : tie.Need-returns-2
-returns-2 c = absurd (never-refused _ _ _ _ _ _ _ (c .before .before .before .before .before .before .before .before .write-text .ensures) (c .before .before .before .before .before .before .before .before .before .before .before .before .before .before .before .before .pre .0) (omega arith) (omega arith) (c .before .before .before .before .before .before .before .before .before .before .before .before .before .before .before .before .pre .1) _ (c .enum-told .given .1))
+returns-2 c =
+    let s = c .before .before .before .before .before .before .before .before .before .before .before .before .before .before .before .before .before in
+    let w : 1792 ≤ length (s .args .words .now) = omega (arith, ap length (s .pre .2) ∙ length-replicate {A = ℕ} 1792 0) in
+    absurd (never-refused _ _ _ _ _ _ _ (c .before .before .before .before .before .before .before .before .write-text .ensures) w (omega arith) (omega arith) (s .pre .3) _ (c .enum-told .given .1))
 
 pub make-text-spec : {M : Type 1} → statement M
 make-text-spec =
@@ -44,6 +57,7 @@ make-text-spec =
     (tie.spec
     slice-aggregate-write-text
     slice-aggregate-write-text-2
+    slice-aggregate-write-text-3
     write-text-requires
     enum-known-length
     same-length
