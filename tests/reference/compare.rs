@@ -20,7 +20,7 @@ const FEWEST_FILES: usize = 5_000;
 const MOST_DIFFERENCES: usize = 10;
 
 /// How the bytes of a file go through the pipe.
-enum Delivery {
+pub enum Delivery {
     AtOnce,
     InPieces(Dice),
 }
@@ -34,7 +34,7 @@ fn write(input: &mut ChildStdin, bytes: &[u8]) -> bool {
     }
 }
 
-fn deliver(mut input: ChildStdin, file: &[u8], delivery: Delivery) {
+pub fn deliver(mut input: ChildStdin, file: &[u8], delivery: Delivery) {
     let mut dice = match delivery {
         Delivery::AtOnce => {
             write(&mut input, file);
@@ -83,7 +83,7 @@ fn fault(output: &Output, want: &[u8]) -> Option<String> {
 }
 
 /// What the lesson program should do. Its word buffer starts as 1,792 zeros.
-fn run_expected(file: &[u8]) -> Lesson {
+pub fn run_expected(file: &[u8]) -> Lesson {
     lesson(file, &mut [0; MOST_WORDS as usize])
 }
 

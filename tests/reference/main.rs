@@ -2,6 +2,7 @@
 //!
 //! - `reference exam FILE` works out the lines of the exam's sheet.
 //! - `reference lessons PROGRAM STORED EXAMPLES SEED COUNT` works out what the lesson program prints.
+//! - `reference streams PROGRAM` tries the lesson program where reading or writing fails, and where it does not.
 //! - `reference example SET SEED` writes a lesson for a published parameter set. The folder of examples holds those of sets 1 to 7, each
 //!   made with the seed 2026.
 
@@ -13,6 +14,7 @@ mod example;
 mod files;
 mod lesson;
 mod show;
+mod streams;
 mod tally;
 
 use std::io::Write;
@@ -33,8 +35,9 @@ fn main() {
     let right = match &arguments[..] {
         ["exam", file] => exam::is_right(file),
         ["lessons", program, stored, examples, seed, count] => compare::is_right(program, stored, examples, number(seed), number(count) as usize),
+        ["streams", program] => streams::is_right(program),
         ["example", set, seed] => write_example(number(set), number(seed)),
-        _ => panic!("exam FILE, lessons PROGRAM STORED EXAMPLES SEED COUNT or example SET SEED"),
+        _ => panic!("exam FILE, lessons PROGRAM STORED EXAMPLES SEED COUNT, streams PROGRAM or example SET SEED"),
     };
     if !right {
         exit(1);
