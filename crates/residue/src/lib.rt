@@ -68,10 +68,10 @@ pub fn add_words(a: Word, b: Word, q: Word) -> Word
     narrow(add(widen(a), widen(b), widen(q)), q)
 }
 
-pub fn from_u16(x: u16) -> Word
-    ensures { λ r. ⌜ r ≡ x ⌝ }
+pub fn from_u16(bits: u16) -> Word
+    ensures { λ r. ⌜ r ≡ bits ⌝ }
 {
-    x as Word
+    bits as Word
 }
 
 pub fn to_usize(x: Word) -> usize

@@ -133,12 +133,9 @@ fn check_sample(
     if let Checked::Failed(r) = check_pair(n, k, q, x, y) {
         return Checked::Failed(r);
     }
-    if let Checked::Failed(r) = checks::check_words(
-        words,
-        (2 * k) as u32,
-        (n * (n - 1)) as u32,
-        q,
-    ) {
+    let bits = (2 * k) as u32;
+    let per = (n * (n - 1)) as u32;
+    if let Checked::Failed(r) = checks::check_words(words, bits, per, q) {
         return Checked::Failed(r);
     }
     if room < n {

@@ -45,20 +45,20 @@ returns c = part-failed _ _ (c .before .before .before .check-pair .ensures) tt 
 enum-told : tie.Need-enum-told
 enum-told c = search needs
 
-mul-check-words : tie.Need-mul-check-words
-mul-check-words c = omega (arith, sizes c)
+mul-bits : tie.Need-mul-bits
+mul-bits c = omega (arith, sizes c)
 
-cast-check-words : tie.Need-cast-check-words
-cast-check-words c = omega (arith, pair c .sixteen)
+cast-bits : tie.Need-cast-bits
+cast-bits c = omega (arith, pair c .sixteen)
 
-sub-check-words : tie.Need-sub-check-words
-sub-check-words c = omega (arith, pair c .two)
+sub-per : tie.Need-sub-per
+sub-per c = omega (arith, pair c .two)
 
-mul-check-words-2 : tie.Need-mul-check-words-2
-mul-check-words-2 c = omega (arith, sizes c)
+mul-per : tie.Need-mul-per
+mul-per c = omega (arith, sizes c)
 
-cast-check-words-2 : tie.Need-cast-check-words-2
-cast-check-words-2 c = omega (arith, sizes c)
+cast-per : tie.Need-cast-per
+cast-per c = omega (arith, sizes c)
 
 check-words-requires : tie.Need-check-words-requires
 check-words-requires c κs = search needs
@@ -101,11 +101,11 @@ check-sample-spec =
     enum-known-r
     returns
     enum-told
-    mul-check-words
-    cast-check-words
-    sub-check-words
-    mul-check-words-2
-    cast-check-words-2
+    mul-bits
+    cast-bits
+    sub-per
+    mul-per
+    cast-per
     check-words-requires
     enum-known-r-2
     returns-2
