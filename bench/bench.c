@@ -57,7 +57,7 @@ static const point points[] = {{2, 2, 3329}, {3, 3, 3329}, {4, 8, 12289}, {8, 16
 enum { CONTESTANTS = sizeof contestants / sizeof *contestants, POINTS = sizeof points / sizeof *points, INPUTS = 64 };
 
 /* At most this share of the time of C of each kind, by every compiler. */
-static const double goals[] = {[PLAIN] = 0.85, [CAREFUL] = 1.10};
+static const double goals[] = {[PLAIN] = 0.85, [CAREFUL] = 1.05};
 
 /* One number for each point and contestant. */
 typedef double table[POINTS][CONTESTANTS];

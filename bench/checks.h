@@ -14,13 +14,28 @@ static inline tp_answer answer(uint32_t code, size_t value)
     return (tp_answer){.code = code, .value = value};
 }
 
-/* The position of the first word that is not below the limit, or the count. */
-static inline size_t first_not_below(const uint16_t *words, size_t count, uint32_t limit)
+/* The position of the first share that is not below the limit, or the count. */
+static inline size_t first_wide(const uint16_t *shares, size_t count, uint32_t limit)
 {
     size_t i = 0;
-    while (i < count && words[i] < limit)
+    while (i < count && shares[i] < limit)
         i++;
     return i;
+}
+
+/* The position of the first word that is not below q, or the count. The search goes over the bits and, within a bit, over its words, as
+ * document 01 has it and as the library does. A pass over all words that is never left early would be faster on both sides: there the
+ * compiler compares eight words at once, and here it cannot. */
+static inline size_t first_not_below(const uint16_t *words, size_t bits, size_t per, uint32_t q)
+{
+    size_t at = 0;
+    for (size_t b = 0; b < bits; b++)
+        for (size_t i = 0; i < per; i++) {
+            if (words[at] >= q)
+                return at;
+            at++;
+        }
+    return at;
 }
 
 /* Code 0 and the number of words that the call uses, or the first refusal. */
@@ -37,16 +52,16 @@ static inline tp_answer check_sample(size_t n, size_t k, uint16_t q, const uint1
         return answer(4, 0);
     if (y_len != n)
         return answer(5, 0);
-    size_t wide = first_not_below(x, n, 1u << k);
+    size_t wide = first_wide(x, n, 1u << k);
     if (wide < n)
         return answer(6, wide);
-    wide = first_not_below(y, n, 1u << k);
+    wide = first_wide(y, n, 1u << k);
     if (wide < n)
         return answer(7, wide);
     size_t used = 2 * k * n * (n - 1);
     if (words_len < used)
         return answer(8, 0);
-    size_t unfit = first_not_below(words, used, q);
+    size_t unfit = first_not_below(words, 2 * k, n * (n - 1), q);
     if (unfit < used)
         return answer(9, unfit);
     if (out_len < n)

@@ -38,16 +38,16 @@ fn write_rows(
     let n = shares.len();
     let mut array = [0u16; 8];
     buffers::copy_eight(&mut array, shares);
-    for t in 0..k {
+    for bit in 0..k {
         conversion::convert_at(
             &array,
-            t,
+            bit,
             n,
             q,
             words,
-            start + t * (n * (n - 1)),
+            start + bit * (n * (n - 1)),
             work,
-            to + t * n,
+            to + bit * n,
         );
     }
 }

@@ -1,4 +1,4 @@
--- The rows of the first t bits stand in the work area.
+-- The rows of the bits below `bit` stand in the work area.
 use mathlib.Core.Path.{_≡_, refl, ap, _∙_}
 use mathlib.Core.List.{List}
 use Prim.Native.Nat.{ℕ, _+_, _-_, _*_, _≤_, _<_}
@@ -17,10 +17,10 @@ use Rattle.sampler.proofs.write_rows.Statement.{statement}
 use Rattle.sampler.proofs.write_rows.Tie as tie
 
 abbrev Inv-loop : tie.InvT-loop
-Inv-loop shares k q words start work₀ to n array t₀ work t = (t ≤ k) × (work ≡ overwrite work₀ to (rows t (length shares) (row q (length shares) (at shares) (after start (at words)))))
+Inv-loop shares k q words start work₀ to n array bit₀ work bit = (bit ≤ k) × (work ≡ overwrite work₀ to (rows bit (length shares) (row q (length shares) (at shares) (after start (at words)))))
 
 abbrev μ-loop : tie.MeasureT-loop
-μ-loop shares k q words start work₀ to n array t₀ work t = k - t
+μ-loop shares k q words start work₀ to n array bit₀ work bit = k - bit
 
 -- the shares stand in front of the array
 gathered : (c : tie.After-copy-eight Inv-loop μ-loop) → let x = c .before .before .before .before .before .args .shares .now in Same (length x) (at (c .copy-eight .last .0)) (at x)
@@ -29,10 +29,10 @@ gathered c i l =
     ap (λ (p : List ℕ). at p i) (c .copy-eight .ensures) ∙ front-same _ (s .args .shares .now) 8 (s .pre .1) i l
 
 -- the next row has its words and its room
-next-words : (c : tie.In-loop Inv-loop μ-loop) → let s = c .before .before .before .before .before .before .before .before .args in s .start + (c .before .loop .t * bitWords (length (s .shares .now)) + bitWords (length (s .shares .now))) ≤ length (s .words .now)
+next-words : (c : tie.In-loop Inv-loop μ-loop) → let s = c .before .before .before .before .before .before .before .before .args in s .start + (c .before .loop .bit * bitWords (length (s .shares .now)) + bitWords (length (s .shares .now))) ≤ length (s .words .now)
 next-words c = let s = c .before .before .before .before .before .before .before .before in omega (arith, row-fits (bitWords (length (s .args .shares .now))) (c .loop-test .taken), s .pre .4 .room)
 
-next-row : (c : tie.In-loop Inv-loop μ-loop) → let s = c .before .before .before .before .before .before .before .before .args in s .to + (c .before .loop .t * length (s .shares .now) + length (s .shares .now)) ≤ length (s .work .now)
+next-row : (c : tie.In-loop Inv-loop μ-loop) → let s = c .before .before .before .before .before .before .before .before .args in s .to + (c .before .loop .bit * length (s .shares .now) + length (s .shares .now)) ≤ length (s .work .now)
 next-row c = let s = c .before .before .before .before .before .before .before .before in omega (arith, row-fits (length (s .args .shares .now)) (c .loop-test .taken), s .pre .5)
 
 slice-aggregate-copy-eight : tie.Need-slice-aggregate-copy-eight Inv-loop μ-loop
@@ -72,12 +72,12 @@ convert-at-requires c κs =
       s .pre .1,
       omega arith,
       s .pre .3,
-      drawn-part _ (l .t * w) _ refl (row-fits w (c .before .before .loop-test .taken)) (s .pre .4),
+      drawn-part _ (l .bit * w) _ refl (row-fits w (c .before .before .loop-test .taken)) (s .pre .4),
       omega (arith, rows-length _ _ _ _ _ _ (l .inv .1) (omega arith)),
     )
 
-add-t : tie.Need-add-t Inv-loop μ-loop
-add-t c = search needs
+add-bit : tie.Need-add-bit Inv-loop μ-loop
+add-bit c = search needs
 
 loop-less : tie.Need-loop-less Inv-loop μ-loop
 loop-less c = search needs
@@ -87,13 +87,13 @@ loop-again c =
     let s = c .before .before .before .before .before .before .before .before .before .before .before .before .before in
     let l = c .before .before .before .before .before .before .loop in
     let g = c .before .before .before .before .before .before .before .before in
-    let e = row-done _ _ (l .t) (s .args .shares .now) (g .copy-eight .last .0) (s .pre .3 .large) (gathered g) (s .args .start) _ (s .args .words .now) refl in
+    let e = row-done _ _ (l .bit) (s .args .shares .now) (g .copy-eight .last .0) (s .pre .3 .large) (gathered g) (s .args .start) _ (s .args .words .now) refl in
     (omega arith, c .before .before .convert-at .ensures ∙ rows-next _ _ _ _ _ _ _ (l .inv .1) e)
 
 same-length : tie.Need-same-length Inv-loop μ-loop
 same-length c =
     let s = c .before .before .before .before .before .before .before .before in
-    let e : c .before .loop .t ≡ s .args .k = omega arith in
+    let e : c .before .loop .bit ≡ s .args .k = omega arith in
     rows-length _ _ _ _ _ _ (c .before .loop .inv .1) (rw e (s .pre .5))
 
 returns : tie.Need-returns Inv-loop μ-loop
@@ -115,7 +115,7 @@ write-rows-spec =
     mul-convert-at-3
     add-convert-at-2
     convert-at-requires
-    add-t
+    add-bit
     loop-less
     loop-again
     same-length
