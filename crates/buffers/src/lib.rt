@@ -29,7 +29,7 @@ pub fn copy_eight(to: &mut [u16], from: &[u16])
 }
 
 // `count` times `value`, at `start` and behind.
-pub fn fill(to: &mut [Word], start: usize, count: usize, value: Word)
+fn fill(to: &mut [Word], start: usize, count: usize, value: Word)
     requires { ⌜ start + count ≤ length (now to) ⌝ }
     ensures { λ _. ⌜ now (to .exit) ≡ overwrite (now (to .entry)) start (replicate count value) ⌝ }
 {
