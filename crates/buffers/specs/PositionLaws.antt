@@ -94,6 +94,6 @@ set-agrees l i v f h e j a = go (ℕ-discrete j i)
 
 -- ---- the front of a list
 
--- a list that stands in front of another, none of it cut off
-pub front-same : (l s : List ℕ) (n : ℕ) → length s ≤ n → Same (length s) (at (overwrite l 0 (take n s))) (at s)
-front-same l s n h i m = ap (λ (r : List ℕ). at (overwrite l 0 r) i) (take-all n s h) ∙ front-below l s i m
+-- a list that was copied to the front of another, none of it cut off
+pub front-same : (l s t : List ℕ) (n : ℕ) → t ≡ overwrite l 0 (take n s) → length s ≤ n → Same (length s) (at t) (at s)
+front-same l s t n e h i m = ap (λ (r : List ℕ). at r i) (e ∙ ap (overwrite l 0) (take-all n s h)) ∙ front-below l s i m

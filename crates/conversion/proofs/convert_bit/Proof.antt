@@ -1,7 +1,6 @@
 -- The checks' verdict; a refusal comes before anything is written, and behind the checks the bit is converted.
 use mathlib.Core.Path.{_∙_, ap}
-use mathlib.Core.List.{List}
-use Prim.Native.Nat.{ℕ, _-_, _<_}
+use Prim.Native.Nat.{_-_}
 use native.Mathlib.Omega.{arith}
 use lib.ListN.{length}
 use Rattle.checks.specs.declared.Answer.the-variants.{Done}
@@ -29,8 +28,7 @@ gathered : (c : tie.After-copy-eight) → let a = c .before .before .before .bef
 gathered c =
     let a = c .before .before .before .before .before .before .before .before .args in
     let s = shared (c .before .before) in
-    let e : (i : ℕ) → i < a .n → i < length (a .bits .now) = λ i l. omega (arith, s .count) in
-    λ i l. ap (λ (p : List ℕ). at p i) (c .copy-eight .ensures) ∙ front-same _ (a .bits .now) 8 (omega (arith, s .count, s .eight)) i (e i l)
+    λ i l. front-same _ (a .bits .now) _ 8 (c .copy-eight .ensures) (omega (arith, s .count, s .eight)) i (omega (arith, s .count))
 
 check-bit-requires : tie.Need-check-bit-requires
 check-bit-requires c κs = search needs

@@ -1,7 +1,6 @@
 -- The rows of the bits below `bit` stand in the work area.
-use mathlib.Core.Path.{_≡_, refl, ap, _∙_}
-use mathlib.Core.List.{List}
-use Prim.Native.Nat.{ℕ, _+_, _-_, _*_, _≤_, _<_}
+use mathlib.Core.Path.{_≡_, refl, _∙_}
+use Prim.Native.Nat.{_+_, _-_, _*_, _≤_, _<_}
 use native.Mathlib.Omega.{arith}
 use lib.ListN.{length}
 use borrow.Author.Needs.{needs}
@@ -24,9 +23,9 @@ abbrev μ-loop : tie.MeasureT-loop
 
 -- the shares stand in front of the array
 gathered : (c : tie.After-copy-eight Inv-loop μ-loop) → let x = c .before .before .before .before .before .args .shares .now in Same (length x) (at (c .copy-eight .last .0)) (at x)
-gathered c i l =
+gathered c =
     let s = c .before .before .before .before .before in
-    ap (λ (p : List ℕ). at p i) (c .copy-eight .ensures) ∙ front-same _ (s .args .shares .now) 8 (s .pre .1) i l
+    front-same _ (s .args .shares .now) _ 8 (c .copy-eight .ensures) (s .pre .1)
 
 -- the next row has its words and its room
 next-words : (c : tie.In-loop Inv-loop μ-loop) → let s = c .before .before .before .before .before .before .before .before .args in s .start + (c .before .loop .bit * bitWords (length (s .shares .now)) + bitWords (length (s .shares .now))) ≤ length (s .words .now)
