@@ -22,6 +22,7 @@ const MOST_DIFFERENCES: usize = 10;
 /// How the bytes of a file go through the pipe.
 pub enum Delivery {
     AtOnce,
+    LastByteLate,
     InPieces(Dice),
 }
 
@@ -38,6 +39,13 @@ pub fn deliver(mut input: ChildStdin, file: &[u8], delivery: Delivery) {
     let mut dice = match delivery {
         Delivery::AtOnce => {
             write(&mut input, file);
+            return;
+        }
+        Delivery::LastByteLate => {
+            let (front, last) = file.split_at(file.len() - 1);
+            write(&mut input, front);
+            thread::sleep(Duration::from_millis(50));
+            write(&mut input, last);
             return;
         }
         Delivery::InPieces(dice) => dice,

@@ -9,6 +9,7 @@
 mod calls;
 mod compare;
 mod draw;
+mod ends;
 mod exam;
 mod example;
 mod files;

@@ -1,14 +1,10 @@
 //! The lesson program's standard streams: what it prints and what it says on standard error, where a read or a write fails and where none does.
 
-use crate::compare::{deliver, run_expected, Delivery};
-use crate::draw::Dice;
+use crate::compare::{deliver, run_expected};
+use crate::ends::{added, Input, Sink};
 use crate::show::{difference, excerpt};
-use std::fs::{File, OpenOptions};
-use std::io::{Error, Read, Write};
-use std::os::fd::OwnedFd;
-use std::os::unix::fs::OpenOptionsExt;
-use std::os::unix::net::UnixStream;
-use std::path::PathBuf;
+use std::io::{Error, Read};
+use std::os::unix::process::ExitStatusExt;
 use std::process::{Child, Command, Output, Stdio};
 use std::thread;
 use std::time::{Duration, Instant};
@@ -19,44 +15,21 @@ const SAMPLE: &[u8] = include_bytes!("../../examples/document01.lesson");
 /// A program that runs longer is ended.
 const LONGEST_RUN: Duration = Duration::from_secs(20);
 
-// Linux's numbers for what goes wrong, and for opening a pipe that does not wait.
+// Linux's numbers for what goes wrong.
 const BAD_DESCRIPTOR: i32 = 9;
 const WOULD_BLOCK: i32 = 11;
 const IS_DIRECTORY: i32 = 21;
 const NO_SPACE: i32 = 28;
 const CONNECTION_RESET: i32 = 104;
-const DO_NOT_WAIT: i32 = 0o4000;
+const PIPE_SIGNAL: i32 = 13;
 
-/// Where the bytes come from.
-#[derive(Clone, Copy)]
-enum Input {
-    Null,
-    File,
-    Pipe,
-    PipeInPieces,
-    Closed,
-    Directory,
-    /// Would block once the bytes are read.
-    SilentPipe,
-    SilentSocket,
-    /// The other end is gone once the bytes are read, and did not read what was sent to it.
-    BrokenSocket,
-}
-
-/// Where the text goes.
-#[derive(Clone, Copy)]
-enum Sink {
-    Pipe,
-    Full,
-    Closed,
-}
-
-/// What comes of a run, with the system's number for what goes wrong.
+/// What comes of a run, with the system's number for what goes wrong, or for the signal that ends the program.
 #[derive(Clone, Copy)]
 enum Outcome {
     Orderly,
     ReadFails(i32),
     WriteFails(i32),
+    Ended(i32),
 }
 
 /// A run of the program on the example repeated to so many bytes.
@@ -76,11 +49,11 @@ const fn failing_read(name: &'static str, input: Input, bytes: usize, error: i32
     Case { name, input, bytes, sink: Sink::Pipe, outcome: Outcome::ReadFails(error) }
 }
 
-const fn failing_write(name: &'static str, bytes: usize, sink: Sink, error: i32) -> Case {
-    Case { name, input: Input::File, bytes, sink, outcome: Outcome::WriteFails(error) }
+const fn failing_write(name: &'static str, input: Input, bytes: usize, sink: Sink, outcome: Outcome) -> Case {
+    Case { name, input, bytes, sink, outcome }
 }
 
-const CASES: [Case; 27] = [
+const CASES: [Case; 32] = [
     orderly("/dev/null", Input::Null, 0),
     orderly("the empty file", Input::File, 0),
     orderly("a pipe without a byte", Input::Pipe, 0),
@@ -93,6 +66,8 @@ const CASES: [Case; 27] = [
     orderly("60,000 bytes through a pipe in pieces", Input::PipeInPieces, 60_000),
     orderly("60,001 bytes in a file", Input::File, 60_001),
     orderly("60,001 bytes through a pipe in pieces", Input::PipeInPieces, 60_001),
+    orderly("60,001 bytes through a pipe, the last one late", Input::LatePipe, 60_001),
+    orderly("a silent pipe behind 60,001 bytes", Input::SilentPipe, 60_001),
     orderly("1,000,000 bytes in a file", Input::File, 1_000_000),
     orderly("1,000,000 bytes through a pipe", Input::Pipe, 1_000_000),
     failing_read("standard input closed", Input::Closed, 0, BAD_DESCRIPTOR),
@@ -105,71 +80,13 @@ const CASES: [Case; 27] = [
     failing_read("a silent socket", Input::SilentSocket, 0, WOULD_BLOCK),
     failing_read("a silent socket behind a sample", Input::SilentSocket, 30, WOULD_BLOCK),
     failing_read("a broken socket behind a sample", Input::BrokenSocket, 30, CONNECTION_RESET),
-    failing_write("/dev/full for the header", 0, Sink::Full, NO_SPACE),
-    failing_write("/dev/full for a sample", 30, Sink::Full, NO_SPACE),
-    failing_write("standard output closed", 30, Sink::Closed, BAD_DESCRIPTOR),
+    failing_write("/dev/full for the header", Input::File, 0, Sink::Full, Outcome::WriteFails(NO_SPACE)),
+    failing_write("/dev/full for a sample", Input::File, 30, Sink::Full, Outcome::WriteFails(NO_SPACE)),
+    failing_write("/dev/full, standard input closed", Input::Closed, 0, Sink::Full, Outcome::WriteFails(NO_SPACE)),
+    failing_write("standard output closed", Input::File, 30, Sink::Closed, Outcome::WriteFails(BAD_DESCRIPTOR)),
+    failing_write("a pipe with room for a part", Input::File, 60_000, Sink::Crowded, Outcome::WriteFails(WOULD_BLOCK)),
+    failing_write("a socket that nobody reads", Input::File, 30, Sink::Abandoned, Outcome::Ended(PIPE_SIGNAL)),
 ];
-
-/// A name for a file or a pipe that is opened at once and then has none.
-fn short_lived_name() -> PathBuf {
-    std::env::temp_dir().join(format!("lesson_streams.{}", std::process::id()))
-}
-
-fn regular_file(bytes: &[u8]) -> File {
-    let name = short_lived_name();
-    std::fs::write(&name, bytes).expect("a file");
-    let file = File::open(&name).expect("the file");
-    std::fs::remove_file(&name).expect("the file's name");
-    file
-}
-
-/// Both ends of a pipe in one, so that it never comes to its end.
-fn silent_pipe(bytes: &[u8]) -> File {
-    let name = short_lived_name();
-    assert!(Command::new("mkfifo").arg(&name).status().expect("mkfifo").success(), "no pipe is made");
-    let mut pipe = OpenOptions::new().read(true).write(true).custom_flags(DO_NOT_WAIT).open(&name).expect("the pipe");
-    std::fs::remove_file(&name).expect("the pipe's name");
-    pipe.write_all(bytes).expect("room in the pipe");
-    pipe
-}
-
-/// The program's end, which delivers the bytes, and the other one.
-fn socket(bytes: &[u8]) -> (UnixStream, UnixStream) {
-    let (theirs, mut ours) = UnixStream::pair().expect("a pair of sockets");
-    theirs.set_nonblocking(true).expect("a socket that does not wait");
-    ours.write_all(bytes).expect("room in the socket");
-    (theirs, ours)
-}
-
-impl Input {
-    /// The program's standard input, and what has to be kept open meanwhile.
-    fn open(self, bytes: &[u8]) -> (Stdio, Option<UnixStream>) {
-        match self {
-            Input::Null | Input::Closed => (Stdio::null(), None),
-            Input::File => (regular_file(bytes).into(), None),
-            Input::Pipe | Input::PipeInPieces => (Stdio::piped(), None),
-            Input::Directory => (File::open("/").expect("a directory").into(), None),
-            Input::SilentPipe => (silent_pipe(bytes).into(), None),
-            Input::SilentSocket => {
-                let (theirs, ours) = socket(bytes);
-                (OwnedFd::from(theirs).into(), Some(ours))
-            }
-            Input::BrokenSocket => {
-                let (mut theirs, ours) = socket(bytes);
-                theirs.write_all(b"unread").expect("room in the socket");
-                drop(ours);
-                (OwnedFd::from(theirs).into(), None)
-            }
-        }
-    }
-
-    fn delivery(self) -> Delivery {
-        match self {
-            Input::PipeInPieces => Delivery::InPieces(Dice::new(0, 0)),
-            _ => Delivery::AtOnce,
-        }
-    }
-}
 
 /// The output of a program that is running.
 fn finish(mut child: Child) -> Output {
@@ -206,33 +123,34 @@ impl Case {
 
     fn run(&self, program: &str, file: &[u8]) -> Output {
         let (input, _other_end) = self.input.open(file);
-        let output = match self.sink {
-            Sink::Full => OpenOptions::new().write(true).open("/dev/full").expect("/dev/full").into(),
-            Sink::Pipe | Sink::Closed => Stdio::piped(),
-        };
+        let (output, crowded) = self.sink.open();
         let mut command = Command::new("sh");
         command.args(["-c", self.command(), program]).stdin(input).stdout(output).stderr(Stdio::piped());
         let mut child = command.spawn().expect("a shell");
         let pipe = child.stdin.take();
-        thread::scope(|scope| {
+        let mut output = thread::scope(|scope| {
             scope.spawn(|| pipe.map(|pipe| deliver(pipe, file, self.input.delivery())));
             finish(child)
-        })
+        });
+        output.stdout.extend(crowded.map(added).unwrap_or_default());
+        output
     }
 
-    /// After a failed read the header alone, after a failed write nothing.
-    fn printed(&self, file: &[u8]) -> Vec<u8> {
+    /// After a failed read the header alone, after a failed write what there was room for: of a long text a part.
+    fn printed(&self, file: &[u8], room: usize) -> Vec<u8> {
+        let text = run_expected(file).printed;
         match self.outcome {
-            Outcome::Orderly => run_expected(file).printed,
+            Outcome::Orderly => text,
             Outcome::ReadFails(_) => run_expected(&[]).printed,
-            Outcome::WriteFails(_) => Vec::new(),
+            Outcome::WriteFails(_) if self.sink == Sink::Crowded => text[..room.clamp(1, text.len() - 1)].to_vec(),
+            Outcome::WriteFails(_) | Outcome::Ended(_) => Vec::new(),
         }
     }
 
     /// One line with the system's words for what fails, or nothing.
     fn said(&self) -> String {
         let (stream, error) = match self.outcome {
-            Outcome::Orderly => return String::new(),
+            Outcome::Orderly | Outcome::Ended(_) => return String::new(),
             Outcome::ReadFails(error) => ("input", error),
             Outcome::WriteFails(error) => ("output", error),
         };
@@ -245,8 +163,12 @@ impl Case {
     fn fault(&self, program: &str) -> Option<String> {
         let file = self.file();
         let output = self.run(program, &file);
-        let mut text = difference(&output.stdout, &self.printed(&file)).unwrap_or_default();
-        if output.status.code() != Some(0) {
+        let mut text = difference(&output.stdout, &self.printed(&file, output.stdout.len())).unwrap_or_default();
+        let ended = match self.outcome {
+            Outcome::Ended(signal) => output.status.signal() == Some(signal),
+            _ => output.status.code() == Some(0),
+        };
+        if !ended {
             text += &format!("  {}\n", output.status);
         }
         let said = self.said();
@@ -265,7 +187,7 @@ pub fn is_right(program: &str) -> bool {
         *match case.outcome {
             Outcome::Orderly => &mut orderly,
             Outcome::ReadFails(_) => &mut reads,
-            Outcome::WriteFails(_) => &mut writes,
+            Outcome::WriteFails(_) | Outcome::Ended(_) => &mut writes,
         } += 1;
         if let Some(text) = case.fault(program) {
             wrong += 1;

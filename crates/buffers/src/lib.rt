@@ -28,20 +28,12 @@ pub fn copy_eight(to: &mut [u16], from: &[u16])
     }
 }
 
-// `count` times `value`, at `start` and behind.
-fn fill(to: &mut [Word], start: usize, count: usize, value: Word)
-    requires { ⌜ start + count ≤ length (now to) ⌝ }
-    ensures { λ _. ⌜ now (to .exit) ≡ overwrite (now (to .entry)) start (replicate count value) ⌝ }
-{
-    for i in 0..count {
-        to[start + i] = value;
-    }
-}
-
 // Zeros in the first `count` positions.
 pub fn zero(to: &mut [Word], count: usize)
     requires { ⌜ count ≤ length (now to) ⌝ }
     ensures { λ _. ⌜ now (to .exit) ≡ overwrite (now (to .entry)) 0 (replicate count 0) ⌝ }
 {
-    fill(to, 0, count, 0);
+    for i in 0..count {
+        to[i] = 0;
+    }
 }

@@ -1,5 +1,5 @@
--- How much of its input the lesson program needs: a file of more than 60,000 bytes is refused before any record of it is looked at, so that one byte
--- past the limit tells the text.
+-- How much of its input the lesson program needs: a file of more than 60,000 bytes is refused before any record of it is looked at, so that its
+-- first 60,001 bytes tell the text.
 use mathlib.Core.Path.{_≡_, sym, ap, _∙_}
 use mathlib.Core.List.{List}
 use Prim.Native.Nat.{ℕ, _≤_}

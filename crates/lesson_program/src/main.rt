@@ -4,22 +4,24 @@ use libc::STDIN_FILENO;
 use libc::STDOUT_FILENO;
 use residue::Word;
 ghost use mathlib.Core.Path.{_≡_};
-ghost use mathlib.Core.Bool.{true};
+ghost use mathlib.Core.Bool.{true, false};
 ghost use mathlib.Core.List.{List};
 ghost use Prim.Native.Nat.{ℕ, _≤_};
 ghost use lib.ListN.{length, take, replicate};
 ghost use Rattle.lesson.specs.Text.{lessonText};
 ghost use Rattle.lesson.specs.Input.{Read};
 
-// How many bytes of the input stand in front of the buffer: none if a read failed, wherever in the input.
+// How many bytes in front of the buffer count as the input: none where a read failed, wherever in the input; else all that fit, unless the
+// input ended before.
 struct Input {
     count: usize,
     failed: bool,
+    ended: bool,
 }
 
 // Reads until the input ends, the buffer is full or a read fails.
 fn read_input(buffer: &mut [u8]) -> Input
-    ensures { λ r. ⌜ (r .count ≤ length (now (buffer .exit))) × (r .failed ≡ true → r .count ≡ 0) ⌝ }
+    ensures { λ r. ⌜ (r .count ≤ length (now (buffer .exit))) × (r .failed ≡ true → r .count ≡ 0) × (r .failed ≡ false → r .ended ≡ false → r .count ≡ length (now (buffer .exit))) ⌝ }
 {
     let mut done = 0;
     while done < buffer.len() {
@@ -28,17 +30,23 @@ fn read_input(buffer: &mut [u8]) -> Input
             return Input {
                 count: 0,
                 failed: true,
+                ended: false,
             };
         }
         let more = io::count(got, &buffer[done..]);
         if more == 0 {
-            break;
+            return Input {
+                count: done,
+                failed: false,
+                ended: true,
+            };
         }
         done = done + more;
     }
     Input {
         count: done,
         failed: false,
+        ended: false,
     }
 }
 
@@ -63,7 +71,7 @@ fn make_text(buffer: &[u8], count: usize, words: &mut [Word], text: &mut [u8]) -
 }
 
 // What `make_text` promises is proved; that the bytes read go to it, and its text to standard output, is these lines. Why a read failed is said
-// after the text, by the errno that the read left: a write that succeeds keeps it.
+// after the text, by the errno that the read left, which Linux's write keeps where it succeeds.
 fn main() {
     let mut file = [0u8; 60001];
     let mut words: [Word; 1792] = [0; 1792];

@@ -68,10 +68,10 @@ pub fn add_words(a: Word, b: Word, q: Word) -> Word
     narrow(add(widen(a), widen(b), widen(q)), q)
 }
 
-pub fn from_u16(bits: u16) -> Word
-    ensures { λ r. ⌜ r ≡ bits ⌝ }
+pub fn from_u16(number: u16) -> Word
+    ensures { λ r. ⌜ r ≡ number ⌝ }
 {
-    bits as Word
+    number as Word
 }
 
 pub fn to_usize(x: Word) -> usize

@@ -1,4 +1,4 @@
--- What was read so far fits into the buffer, and a read that is not the last fills more of it.
+-- What was read so far fits into the buffer, a read that is not the last fills more of it, and the loop is left when it is full.
 use mathlib.Core.Path.{_≡_, sym}
 use mathlib.Core.Bool.{true≢false}
 use Prim.Native.Nat.{_-_, _≤_}
@@ -32,7 +32,7 @@ same-length : tie.Need-same-length Inv-loop μ-loop
 same-length c = search needs
 
 returns : tie.Need-returns Inv-loop μ-loop
-returns c = search needs
+returns c = (search needs, λ _. search needs, λ e. absurd (true≢false e))
 
 sub-count : tie.Need-sub-count Inv-loop μ-loop
 sub-count c = search needs
@@ -46,6 +46,12 @@ part-count-end c = search needs
 count-requires : tie.Need-count-requires Inv-loop μ-loop
 count-requires c κs = search needs
 
+same-length-2 : tie.Need-same-length-2 Inv-loop μ-loop
+same-length-2 c = search needs
+
+returns-2 : tie.Need-returns-2 Inv-loop μ-loop
+returns-2 c = (search needs, λ e. absurd (true≢false (sym e)), λ _ e. absurd (true≢false e))
+
 add-done : tie.Need-add-done Inv-loop μ-loop
 add-done c = search needs
 
@@ -55,17 +61,11 @@ loop-less c = search needs
 loop-again : tie.Need-loop-again Inv-loop μ-loop
 loop-again c = search needs
 
-same-length-2 : tie.Need-same-length-2 Inv-loop μ-loop
-same-length-2 c = search needs
-
-returns-2 : tie.Need-returns-2 Inv-loop μ-loop
-returns-2 c = (search needs, λ e. absurd (true≢false (sym e)))
-
 same-length-3 : tie.Need-same-length-3 Inv-loop μ-loop
 same-length-3 c = search needs
 
 returns-3 : tie.Need-returns-3 Inv-loop μ-loop
-returns-3 c = (search needs, λ e. absurd (true≢false (sym e)))
+returns-3 c = (search needs, λ e. absurd (true≢false (sym e)), λ _ _. search needs)
 
 pub read-input-spec : {M : Type 1} → statement M
 read-input-spec =
@@ -84,10 +84,10 @@ read-input-spec =
     part-count-start
     part-count-end
     count-requires
+    same-length-2
+    returns-2
     add-done
     loop-less
     loop-again
-    same-length-2
-    returns-2
     same-length-3
     returns-3)
