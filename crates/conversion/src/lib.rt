@@ -66,7 +66,7 @@ fn one_share(bit: Word) -> [Word; 8]
     one
 }
 
-// Steps 1 and 2: the list for the first j shares of bit t, from the words in front of `words`.
+// Steps 1 and 2: the list for the first j shares of bit t, with the first j(j - 1)/2 words.
 // `&words[..]`: the words' address and length are then copied one by one, as they were stored, which is faster than both at once.
 fn convert(shares: &[u16; 8], t: usize, j: usize, q: Word, words: &[Word]) -> [Word; 8]
     requires { ⌜ (1 ≤ j) × (j ≤ 8) × (t < 16) × Modulus q × Drawn q 0 (pairs j) (now words) ⌝ }
