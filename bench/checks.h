@@ -24,8 +24,8 @@ static inline size_t first_wide(const uint16_t *shares, size_t count, uint32_t l
 }
 
 /* The position of the first word that is not below q, or the count. The search goes over the bits and, within a bit, over its words, as
- * document 01 has it and as the library does. A pass over all words that is never left early would be faster, in C as in the library, by 0.3
- * ns a word: in it the compiler compares eight words at once, and in this search it cannot. */
+ * document 01 has it and as the library does. In the library this costs 0.3 ns a word more than a pass over all words that
+ * is never left early: there the compiler compares eight words at once, and in the search it does not. */
 static inline size_t first_not_below(const uint16_t *words, size_t bits, size_t per, uint32_t q)
 {
     size_t at = 0;

@@ -2,7 +2,8 @@
 //!
 //! - `reference exam FILE` works out the lines of the exam's sheet.
 //! - `reference lessons PROGRAM STORED EXAMPLES SEED COUNT` works out what the lesson program prints.
-//! - `reference streams PROGRAM` tries the lesson program where reading or writing fails, and where it does not.
+//! - `reference streams PROGRAM` tries the lesson program where reading or writing fails, of which the page says nothing (docs/DECISIONS.md does),
+//!   and where it does not.
 //! - `reference example SET SEED` writes a lesson for a published parameter set. The folder of examples holds those of sets 1 to 7, each
 //!   made with the seed 2026.
 
