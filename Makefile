@@ -1,36 +1,74 @@
-.PHONY: lesson exam bench test
+.PHONY: help lesson exam lib install uninstall bench test clean
+.NOTPARALLEL:
 
-library = target/staticlib/libcapi.a
+PREFIX = /usr/local
+DESTDIR =
+version = $(shell cat VERSION)
+library = build/lib/libtinplateau.a
+header = build/include/tinplateau.h
+to = $(DESTDIR)$(PREFIX)
 
-# The main job on an example: a lesson file, and what the lesson program prints for it.
+help:
+	@echo 'make lesson     the main job on an example: proves the lesson program and gives it a lesson file'
+	@echo 'make test       all tests, which is what the gate runs'
+	@echo 'make exam       the exam sheet: every reference value, as the library gives it'
+	@echo 'make lib        the library for C and Rust: $(library) and $(header)'
+	@echo 'make install    installs these and a pkg-config file below PREFIX, here $(PREFIX); DESTDIR goes before it'
+	@echo 'make uninstall  removes what make install installs'
+	@echo 'make bench      the sampler beside plain and careful C'
+	@echo 'make clean      removes target/ and build/'
+
 lesson:
-	@rt check lesson_program >/dev/null
+	@tools/prove check lesson_program
 	@target/bin/lesson_program <examples/document01.lesson
 
-# The exam sheet: every reference value, as the library gives it.
 exam:
-	@rt check exam_program >/dev/null
+	@tools/prove check exam_program
 	@target/bin/exam_program
 
-# The sampler beside C: times and instructions.
-bench: $(library)
+lib: $(library) $(header)
+
+$(library): crates.txt $(shell find crates -name '*.rt' -o -name '*.antt')
+	@tools/prove staticlib capi
+	@mkdir -p $(@D)
+	@cp target/staticlib/libcapi.a $@
+
+$(header): include/tinplateau.h
+	@mkdir -p $(@D)
+	@cp $< $@
+
+install: lib
+	@mkdir -p '$(to)/include' '$(to)/lib/pkgconfig'
+	cp $(header) '$(to)/include/tinplateau.h'
+	cp $(library) '$(to)/lib/libtinplateau.a'
+	sed 's|@prefix@|$(PREFIX)|; s|@version@|$(version)|' tinplateau.pc.in >'$(to)/lib/pkgconfig/tinplateau.pc'
+
+uninstall:
+	rm -f '$(to)/include/tinplateau.h' '$(to)/lib/libtinplateau.a' '$(to)/lib/pkgconfig/tinplateau.pc'
+
+bench: lib
 	@bench/run
 
-# The library for C, which include/tinplateau.h declares.
-$(library): crates.txt $(shell find crates -name '*.rt' -o -name '*.antt')
-	@rt staticlib capi >/dev/null
-	@touch $@
-
-# All that the gate runs: the tests from outside, then every proof, every must-fail edit and every program. The programs come first: crates
-# that do not depend on each other are then proved side by side, and the tests find all below them proved.
+# The programs and the library come first: crates that do not depend on each other are then proved side by side, and the tests find all
+# below them proved. rt ci, whose last line is the last of all, starts from nothing.
 test:
+	@tools/setup
 	rt fmt --check
-	@mkdir -p target
-	@rt check lesson_program exam_program >target/programs.log || { tail -n 20 target/programs.log; exit 1; }
+	@tools/prove check lesson_program exam_program
+	@$(MAKE) --silent --no-print-directory lib
+	tests/docs
+	tests/setup
 	tests/compile_refusals
 	tests/exam
 	tests/lessons
+	tests/lesson_tool
+	tests/archive
+	tests/header
+	tests/install
 	tests/library
 	tests/c_client
 	tests/machine_code
-	rt ci
+	@tools/prove ci
+
+clean:
+	rm -rf target build

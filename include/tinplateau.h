@@ -1,7 +1,8 @@
 /* Tinplateau: masked binomial sampling. What each function answers is proved about its code (docs/CONTRACTS.md).
  *
- * Every call answers a code: 0 where it is accepted, else document 01's number of the first check that failed. With it goes the position of
- * what is unfit, counted from 0, where a position is named below, and else 0. A refused call changes nothing.
+ * Every call answers a code: 0 where it is accepted, else the number of the first check that failed (enum tp_code; docs/LESSONS.md says what
+ * to do about each). With it goes the position of what is unfit, counted from 0, where a position is named below, and else 0. A refused call
+ * changes nothing.
  *
  * A list is a pointer and its number of elements; with 0 elements the pointer is not used. The caller sees to it that each list is there,
  * and that one which is not const may be written and overlaps no other list of the call.
@@ -14,11 +15,67 @@
 #include <stddef.h>
 #include <stdint.h>
 
+/* MINOR rises with a new call, MAJOR where a call or the meaning of an answer changes. */
+#define TINPLATEAU_VERSION_MAJOR 1
+#define TINPLATEAU_VERSION_MINOR 0
+
+/* Has the compiler warn where an answer is dropped. Defined as nothing before this file is included, it is off. */
+#ifndef TP_NODISCARD
+#if defined(__cplusplus) && __cplusplus >= 201703L || defined(__STDC_VERSION__) && __STDC_VERSION__ >= 202311L
+#define TP_NODISCARD [[nodiscard]]
+#elif defined(__GNUC__)
+#define TP_NODISCARD __attribute__((warn_unused_result))
+#else
+#define TP_NODISCARD
+#endif
+#endif
+
 #ifdef __cplusplus
 extern "C" {
 #endif
 
-/* Code 0: accepted, and the value is a count. Else document 01's number, and the value is the position. */
+/* The limits of n and k, of the words that one sample takes, and of a lesson file's bytes. */
+#define TP_MIN_SHARES 2
+#define TP_MAX_SHARES 8
+#define TP_MIN_BITS 1
+#define TP_MAX_BITS 16
+#define TP_MAX_WORDS 1792
+#define TP_MAX_FILE 60000
+
+/* The random words of a converted bit, and of a sample; the words of a sample's work area; the bytes of a lesson's text buffer. */
+#define TP_BIT_WORDS(n) ((size_t)(n) * ((size_t)(n) - 1))
+#define TP_SAMPLE_WORDS(n, k) (2 * (size_t)(k) * TP_BIT_WORDS(n))
+#define TP_SAMPLE_WORK(n, k) (2 * (size_t)(k) * (size_t)(n))
+#define TP_TEXT_ROOM(file_len) ((size_t)(file_len) > TP_MAX_FILE ? (size_t)45 : 3 * (size_t)(file_len) + 45)
+
+/* Why a call is refused. TP_MARK to TP_FILE_LENGTH are about lesson files, and stand in a lesson's text only. */
+enum tp_code {
+    TP_ACCEPTED = 0,
+    TP_SHARE_COUNT = 1,       /* n is not from 2 to 8 */
+    TP_STRING_LENGTH = 2,     /* k is not from 1 to 16 */
+    TP_MODULUS = 3,           /* q is too small */
+    TP_X_COUNT = 4,           /* not n Boolean shares, of x where there are two lists */
+    TP_Y_COUNT = 5,           /* not n shares of y */
+    TP_X_WIDTH = 6,           /* a Boolean share, of x where there are two lists, of more than k bits */
+    TP_Y_WIDTH = 7,           /* a share of y of more than k bits */
+    TP_WORD_COUNT = 8,        /* too few random words */
+    TP_WORD_RANGE = 9,        /* a random word not below q */
+    TP_OUTPUT_ROOM = 10,      /* an output that is too short */
+    TP_WORK_ROOM = 11,        /* a work area that is too short */
+    TP_VALUE_WIDTH = 12,      /* an opened string of more than k bits */
+    TP_MASK_COUNT = 13,       /* not n - 1 masks */
+    TP_MASK_WIDTH = 14,       /* a mask of more than k bits */
+    TP_ARITHMETIC_COUNT = 15, /* not n arithmetic shares */
+    TP_ARITHMETIC_RANGE = 16, /* an arithmetic share not below q */
+    TP_RESIDUE_RANGE = 17,    /* an opened residue not below q */
+    TP_MARK = 18,             /* a mark that is not allowed where it stands */
+    TP_CUT_SHORT = 19,        /* the file ends within a record or a sample */
+    TP_WORD_LIMIT = 20,       /* a count of random words above 1,792 */
+    TP_FILE_LENGTH = 21,      /* a file of more than 60,000 bytes */
+    TP_SET_NUMBER = 22        /* no published parameter set has this number */
+};
+
+/* Code 0: accepted, and the value is a count. Else a number of enum tp_code, and the value is the position. */
 typedef struct {
     uint32_t code;
     size_t value;
@@ -60,35 +117,77 @@ typedef struct {
     uint16_t q;
 } tp_parameters;
 
+/* The layout that the archive has. A compiler that lays a struct out in another way is refused here. */
+#if defined(__cplusplus) && __cplusplus >= 201103L
+#define TP_HOLDS(fact) static_assert(fact, #fact)
+#elif defined(__STDC_VERSION__) && __STDC_VERSION__ >= 201112L
+#define TP_HOLDS(fact) _Static_assert(fact, #fact)
+#endif
+#ifdef TP_HOLDS
+#define TP_OFFSET(type, member, offset) TP_HOLDS(offsetof(type, member) == (offset))
+TP_HOLDS(sizeof(tp_answer) == 16);
+TP_OFFSET(tp_answer, code, 0);
+TP_OFFSET(tp_answer, value, 8);
+TP_HOLDS(sizeof(tp_string) == 2);
+TP_OFFSET(tp_string, bits, 0);
+TP_HOLDS(sizeof(tp_residue) == 2);
+TP_OFFSET(tp_residue, value, 0);
+TP_HOLDS(sizeof(tp_opened_string) == 24);
+TP_OFFSET(tp_opened_string, code, 0);
+TP_OFFSET(tp_opened_string, position, 8);
+TP_OFFSET(tp_opened_string, opened, 16);
+TP_HOLDS(sizeof(tp_opened_residue) == 24);
+TP_OFFSET(tp_opened_residue, code, 0);
+TP_OFFSET(tp_opened_residue, position, 8);
+TP_OFFSET(tp_opened_residue, opened, 16);
+TP_HOLDS(sizeof(tp_signed) == 24);
+TP_OFFSET(tp_signed, code, 0);
+TP_OFFSET(tp_signed, position, 8);
+TP_OFFSET(tp_signed, value, 16);
+TP_HOLDS(sizeof(tp_parameters) == 24);
+TP_OFFSET(tp_parameters, code, 0);
+TP_OFFSET(tp_parameters, k, 8);
+TP_OFFSET(tp_parameters, q, 16);
+#undef TP_OFFSET
+#undef TP_HOLDS
+#endif
+
 /* Makes n Boolean shares of a k-bit string out of n - 1 masks: the masks in their order, then the value XOR all of them. Answers n.
  * Refuses 1 (n); 2 (k); 12 (value of more than k bits); 13 (not n - 1 masks); 14 (a mask of more than k bits, with its position); 10 (fewer
  * than n output words). Output words past n keep their content. */
+TP_NODISCARD
 tp_answer tp_mask(size_t n, size_t k, tp_string value, const uint16_t *masks, size_t masks_len, uint16_t *out, size_t out_len);
 
 /* Opens a Boolean sharing: the XOR of its n shares.
  * Refuses 1 (n); 2 (k); 4 (not n shares); 6 (a share of more than k bits, with its position). Writes nothing. */
+TP_NODISCARD
 tp_opened_string tp_open_string(size_t n, size_t k, const uint16_t *shares, size_t shares_len);
 
 /* Opens an arithmetic sharing: the sum of its n shares modulo q.
  * Refuses 1 (n); 3 (q below 3); 15 (not n shares); 16 (a share not below q, with its position). Writes nothing. */
+TP_NODISCARD
 tp_opened_residue tp_open_residue(size_t n, uint16_t q, const uint16_t *shares, size_t shares_len);
 
 /* The centred value of a residue r: r where 2r is below q, else r - q.
  * Refuses 3 (q below 3); 17 (r not below q). Writes nothing. */
+TP_NODISCARD
 tp_signed tp_centred(uint16_t q, tp_residue r);
 
 /* The count of one bits in x less that in y.
  * Refuses 2 (k); 12 (more than k bits, with position 0 for x and 1 for y). Writes nothing. */
+TP_NODISCARD
 tp_signed tp_weight_difference(size_t k, tp_string x, tp_string y);
 
 /* k and q of a published parameter set: 1 and 2 ML-KEM, 3 and 4 NewHope, 5 to 7 the Saber family.
  * Refuses 22 (another number). Writes nothing. */
+TP_NODISCARD
 tp_parameters tp_parameter_set(size_t number);
 
 /* Converts a shared bit to n shares modulo q, with the first n(n - 1) words. Answers n(n - 1). With words drawn so, no n - 1 of the
  * shares tell anything of the bit.
  * Refuses 1 (n); 3 (q below 3); 4 (not n shares); 6 (a share that is not 0 or 1, with its position); 8 (fewer than n(n - 1) words); 9 (one
  * of these not below q, with its position); 10 (fewer than n output words). Words and output words past those are neither read nor written. */
+TP_NODISCARD
 tp_answer tp_convert_bit(size_t n, uint16_t q, const uint16_t *bits, size_t bits_len, const uint16_t *words, size_t words_len, uint16_t *out,
                          size_t out_len);
 
@@ -97,6 +196,7 @@ tp_answer tp_convert_bit(size_t n, uint16_t q, const uint16_t *bits, size_t bits
  * Refuses 1 (n); 2 (k); 3 (q below 2k + 1); 4 (not n shares of x); 5 (of y); 6 (a share of x of more than k bits, with its position); 7 (of y);
  * 8 (fewer than W words); 9 (one of these not below q, with its position); 10 (fewer than n output words); 11 (fewer than 2kn words in the
  * work area). Words, output words and work words past those are neither read nor written. */
+TP_NODISCARD
 tp_answer tp_sample(size_t n, size_t k, uint16_t q, const uint16_t *x, size_t x_len, const uint16_t *y, size_t y_len, const uint16_t *words,
                     size_t words_len, uint16_t *out, size_t out_len, uint16_t *work, size_t work_len);
 
@@ -105,6 +205,7 @@ tp_answer tp_sample(size_t n, size_t k, uint16_t q, const uint16_t *x, size_t x_
  * buffer from the front; words past them keep their content.
  * Refuses 8 (a word buffer of fewer than 1,792 words); 10 (a text buffer of fewer than 3 * file_len + 45 bytes, or of 45 for a file of more
  * than 60,000 bytes). Text bytes past the text keep their content. */
+TP_NODISCARD
 tp_answer tp_lesson_text(const uint8_t *file, size_t file_len, uint16_t *words, size_t words_len, uint8_t *text, size_t text_len);
 
 #ifdef __cplusplus

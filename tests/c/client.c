@@ -75,6 +75,7 @@ static void run_pass(enum pass next)
     sampler_cases();
     sample_all_sizes();
     lesson_cases();
+    size_cases();
 }
 
 int main(void)

@@ -41,5 +41,6 @@ void masking_cases(void);
 void conversion_cases(void);
 void sampler_cases(void);
 void lesson_cases(void);
+void size_cases(void);
 
 #endif

@@ -1,0 +1,79 @@
+/* The header's limits and sizes: what they name is accepted, and one more or less is refused. */
+#include "client.h"
+
+#include <stdlib.h>
+#include <string.h>
+
+static const uint16_t zeros[TP_MAX_WORDS];
+
+/* A sample of zeros. */
+static void sample_zeros(size_t n, size_t k, size_t words, size_t work, tp_answer answer)
+{
+    uint16_t shares[SHARES];
+    sample(&(struct sample_case)CASE(n, k, 65535, {zeros, n}, {zeros, n}, {zeros, words}, n, work, answer, NONE), 0, shares);
+}
+
+static void sample_sizes(size_t n, size_t k)
+{
+    size_t words = TP_SAMPLE_WORDS(n, k), work = TP_SAMPLE_WORK(n, k);
+    CHECK(words <= TP_MAX_WORDS);
+    sample_zeros(n, k, words, work, (tp_answer){TP_ACCEPTED, words});
+    sample_zeros(n, k, words - 1, work, (tp_answer){TP_WORD_COUNT, 0});
+    sample_zeros(n, k, words, work - 1, (tp_answer){TP_WORK_ROOM, 0});
+}
+
+static void convert_sizes(size_t n)
+{
+    uint16_t out[TP_MAX_SHARES];
+    tp_answer enough = tp_convert_bit(n, 3, zeros, n, zeros, TP_BIT_WORDS(n), out, n);
+    tp_answer fewer = tp_convert_bit(n, 3, zeros, n, zeros, TP_BIT_WORDS(n) - 1, out, n);
+    CHECK(enough.code == TP_ACCEPTED && enough.value == TP_BIT_WORDS(n));
+    CHECK(fewer.code == TP_WORD_COUNT);
+}
+
+static void all_sizes(void)
+{
+    for (size_t n = TP_MIN_SHARES; n <= TP_MAX_SHARES; n++) {
+        convert_sizes(n);
+        for (size_t k = TP_MIN_BITS; k <= TP_MAX_BITS; k++)
+            sample_sizes(n, k);
+    }
+}
+
+static void limits(void)
+{
+    size_t work = TP_SAMPLE_WORK(TP_MAX_SHARES, TP_MAX_BITS);
+    CHECK(TP_SAMPLE_WORDS(TP_MAX_SHARES, TP_MAX_BITS) == TP_MAX_WORDS);
+    sample_zeros(TP_MIN_SHARES - 1, 1, TP_MAX_WORDS, work, (tp_answer){TP_SHARE_COUNT, 0});
+    sample_zeros(TP_MAX_SHARES + 1, 1, TP_MAX_WORDS, work, (tp_answer){TP_SHARE_COUNT, 0});
+    sample_zeros(2, TP_MIN_BITS - 1, TP_MAX_WORDS, work, (tp_answer){TP_STRING_LENGTH, 0});
+    sample_zeros(2, TP_MAX_BITS + 1, TP_MAX_WORDS, work, (tp_answer){TP_STRING_LENGTH, 0});
+}
+
+/* The text of a file of so many zero bytes ends in this line. With one byte, or one word, less of room the call is refused. */
+static void text_of_zeros(size_t len, const char *line)
+{
+    size_t room = TP_TEXT_ROOM(len), line_len = strlen(line);
+    uint8_t *file = calloc(len + 1, 1), *text = malloc(room);
+    uint16_t words[TP_MAX_WORDS];
+    tp_answer answer = tp_lesson_text(file, len, words, TP_MAX_WORDS, text, room);
+    tp_answer less_room = tp_lesson_text(file, len, words, TP_MAX_WORDS, text, room - 1);
+    tp_answer fewer_words = tp_lesson_text(file, len, words, TP_MAX_WORDS - 1, text, room);
+    CHECK(answer.code == TP_ACCEPTED && equal(text + answer.value - line_len, line, line_len));
+    CHECK(less_room.code == TP_OUTPUT_ROOM);
+    CHECK(fewer_words.code == TP_WORD_COUNT);
+    free(file);
+    free(text);
+}
+
+void size_cases(void)
+{
+    begin_case(__FILE__, __LINE__);
+    all_sizes();
+    limits();
+    text_of_zeros(0, "shares\n");
+    text_of_zeros(1, "refused 19 0\n");
+    text_of_zeros(2, "refused 18 0\n");
+    text_of_zeros(TP_MAX_FILE, "refused 18 0\n");
+    text_of_zeros(TP_MAX_FILE + 1, "refused 21 0\n");
+}
