@@ -1,0 +1,18 @@
+//! Document 01's first reference value: sampled, opened and centred.
+
+use tinplateau::{centre, open_residue, sample, sample_work, sample_words, Refusal};
+
+const N: usize = 2;
+const K: usize = 1;
+const Q: u16 = 17;
+
+fn main() -> Result<(), Refusal> {
+    let (x, y) = ([1, 0], [1, 1]);
+    let words: [u16; sample_words(N, K)] = [5, 3, 10, 16];
+    let mut shares = [0; N];
+    let mut work = [0; sample_work(N, K)];
+    sample(N, K, Q, &x, &y, &words, &mut shares, &mut work)?;
+    let value = centre(Q, open_residue(N, Q, &shares)?)?;
+    println!("shares {} {}, sample {value}", shares[0], shares[1]);
+    Ok(())
+}

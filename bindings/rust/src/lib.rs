@@ -1,0 +1,166 @@
+#![doc = include_str!("../README.md")]
+#![deny(missing_docs)]
+
+pub mod ffi;
+mod refusal;
+mod sizes;
+
+pub use refusal::{Reason, Refusal};
+pub use sizes::{bit_words, sample_work, sample_words, text_room, MAX_BITS, MAX_FILE, MAX_SHARES, MAX_WORDS, MIN_BITS, MIN_SHARES};
+
+/// An opened string: its k bits, bit 0 the lowest.
+///
+/// It is not taken where a residue is asked for:
+///
+/// ```
+/// let _ = tinplateau::centre(17, tinplateau::OpenedResidue(1));
+/// ```
+/// ```compile_fail,E0308
+/// let _ = tinplateau::centre(17, tinplateau::OpenedString(1));
+/// ```
+#[derive(Clone, Copy, Debug, PartialEq, Eq, Hash)]
+pub struct OpenedString(pub u16);
+
+/// An opened residue: a number below q.
+///
+/// It is not taken where a string is asked for, which is at three places:
+///
+/// ```
+/// let _ = tinplateau::mask(2, 1, tinplateau::OpenedString(1), &[0], &mut [0; 2]);
+/// let _ = tinplateau::weight_difference(1, tinplateau::OpenedString(1), tinplateau::OpenedString(1));
+/// ```
+/// ```compile_fail,E0308
+/// let _ = tinplateau::mask(2, 1, tinplateau::OpenedResidue(1), &[0], &mut [0; 2]);
+/// ```
+/// ```compile_fail,E0308
+/// let _ = tinplateau::weight_difference(1, tinplateau::OpenedResidue(1), tinplateau::OpenedString(1));
+/// ```
+/// ```compile_fail,E0308
+/// let _ = tinplateau::weight_difference(1, tinplateau::OpenedString(1), tinplateau::OpenedResidue(1));
+/// ```
+#[derive(Clone, Copy, Debug, PartialEq, Eq, Hash)]
+pub struct OpenedResidue(pub u16);
+
+/// A parameter set.
+#[derive(Clone, Copy, Debug, PartialEq, Eq, Hash)]
+pub struct Parameters {
+    /// The number of bits in a string.
+    pub k: usize,
+    /// The modulus.
+    pub q: u16,
+}
+
+/// What was answered, or the refusal where the code is not 0.
+fn judged<T>(code: u32, position: usize, answered: T) -> Result<T, Refusal> {
+    if code == 0 {
+        return Ok(answered);
+    }
+    let reason = Reason::from_number(code).unwrap_or_else(|| panic!("the library refuses with {code}, which is no number of its header"));
+    Err(Refusal { reason, position })
+}
+
+fn counted(answer: ffi::tp_answer) -> Result<usize, Refusal> {
+    judged(answer.code, answer.value, answer.value)
+}
+
+fn signed(answer: ffi::tp_signed) -> Result<i32, Refusal> {
+    judged(answer.code, answer.position, answer.value)
+}
+
+fn bits(string: OpenedString) -> ffi::tp_string {
+    ffi::tp_string { bits: string.0 }
+}
+
+// In each call below the lists are slices: they are there for their length, and a mutable one overlaps no other.
+
+/// Makes n Boolean shares of a k-bit string out of n - 1 masks: the masks in their order, then the value XOR all of them. Answers n.
+///
+/// Refuses, in this order: `ShareCount`; `StringLength`; `ValueWidth`; `MaskCount`; `MaskWidth`, with the mask's position; `OutputRoom`, for
+/// fewer than n output words. Output words past n keep their content.
+pub fn mask(n: usize, k: usize, value: OpenedString, masks: &[u16], out: &mut [u16]) -> Result<usize, Refusal> {
+    counted(unsafe { ffi::tp_mask(n, k, bits(value), masks.as_ptr(), masks.len(), out.as_mut_ptr(), out.len()) })
+}
+
+/// Opens a Boolean sharing: the XOR of its n shares.
+///
+/// Refuses, in this order: `ShareCount`; `StringLength`; `XCount`; `XWidth`, with the share's position.
+pub fn open_string(n: usize, k: usize, shares: &[u16]) -> Result<OpenedString, Refusal> {
+    let answer = unsafe { ffi::tp_open_string(n, k, shares.as_ptr(), shares.len()) };
+    judged(answer.code, answer.position, OpenedString(answer.opened.bits))
+}
+
+/// Opens an arithmetic sharing: the sum of its n shares modulo q.
+///
+/// Refuses, in this order: `ShareCount`; `Modulus`, for q below 3; `ArithmeticCount`; `ArithmeticRange`, with the share's position.
+pub fn open_residue(n: usize, q: u16, shares: &[u16]) -> Result<OpenedResidue, Refusal> {
+    let answer = unsafe { ffi::tp_open_residue(n, q, shares.as_ptr(), shares.len()) };
+    judged(answer.code, answer.position, OpenedResidue(answer.opened.value))
+}
+
+/// The centred value of a residue r: r where 2r is below q, else r - q.
+///
+/// Refuses, in this order: `Modulus`, for q below 3; `ResidueRange`.
+pub fn centre(q: u16, r: OpenedResidue) -> Result<i32, Refusal> {
+    signed(unsafe { ffi::tp_centred(q, ffi::tp_residue { value: r.0 }) })
+}
+
+/// The count of one bits in x less that in y.
+///
+/// Refuses, in this order: `StringLength`; `ValueWidth`, with position 0 for x and 1 for y.
+pub fn weight_difference(k: usize, x: OpenedString, y: OpenedString) -> Result<i32, Refusal> {
+    signed(unsafe { ffi::tp_weight_difference(k, bits(x), bits(y)) })
+}
+
+/// A published parameter set: 1 and 2 ML-KEM, 3 and 4 NewHope, 5 to 7 the Saber family.
+///
+/// Refuses another number: `SetNumber`.
+pub fn parameter_set(number: usize) -> Result<Parameters, Refusal> {
+    let answer = unsafe { ffi::tp_parameter_set(number) };
+    judged(answer.code, 0, Parameters { k: answer.k, q: answer.q })
+}
+
+/// Converts a shared bit to n shares modulo q, with the first [`bit_words`] words. Answers their number.
+///
+/// Refuses, in this order: `ShareCount`; `Modulus`, for q below 3; `XCount`; `XWidth`, for a share that is not 0 or 1, with its position;
+/// `WordCount`; `WordRange`, with the word's position; `OutputRoom`, for fewer than n output words. Words and output words past those are
+/// neither read nor written.
+pub fn convert_bit(n: usize, q: u16, bits: &[u16], words: &[u16], out: &mut [u16]) -> Result<usize, Refusal> {
+    counted(unsafe { ffi::tp_convert_bit(n, q, bits.as_ptr(), bits.len(), words.as_ptr(), words.len(), out.as_mut_ptr(), out.len()) })
+}
+
+/// Samples: n shares modulo q of the weight of x less the weight of y, with the first [`sample_words`] words. Answers their number. The first
+/// [`sample_work`] words of the work area are 0 afterwards.
+///
+/// Refuses, in this order: `ShareCount`; `StringLength`; `Modulus`, for q below 2k + 1; `XCount`; `YCount`; `XWidth` and `YWidth`, with the
+/// share's position; `WordCount`; `WordRange`, with the word's position; `OutputRoom`, for fewer than n output words; `WorkRoom`. Words, output
+/// words and work words past those are neither read nor written.
+#[allow(clippy::too_many_arguments)]
+pub fn sample(n: usize, k: usize, q: u16, x: &[u16], y: &[u16], words: &[u16], out: &mut [u16], work: &mut [u16]) -> Result<usize, Refusal> {
+    counted(unsafe {
+        ffi::tp_sample(
+            n,
+            k,
+            q,
+            x.as_ptr(),
+            x.len(),
+            y.as_ptr(),
+            y.len(),
+            words.as_ptr(),
+            words.len(),
+            out.as_mut_ptr(),
+            out.len(),
+            work.as_mut_ptr(),
+            work.len(),
+        )
+    })
+}
+
+/// Writes the text of a lesson file, as the lesson program prints it, in front of the text buffer. Answers its length in bytes. What is wrong
+/// with the file is said in the text. The words of each sample whose records are whole fill the word buffer from the front; words past them
+/// keep their content.
+///
+/// Refuses, in this order: `WordCount`, for a word buffer of fewer than [`MAX_WORDS`] words; `OutputRoom`, for a text buffer of fewer than
+/// [`text_room`] bytes. Text bytes past the text keep their content.
+pub fn lesson_text(file: &[u8], words: &mut [u16], text: &mut [u8]) -> Result<usize, Refusal> {
+    counted(unsafe { ffi::tp_lesson_text(file.as_ptr(), file.len(), words.as_mut_ptr(), words.len(), text.as_mut_ptr(), text.len()) })
+}

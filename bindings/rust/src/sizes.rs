@@ -1,0 +1,43 @@
+//! The sizes that a caller needs.
+
+/// The least number of shares.
+pub const MIN_SHARES: usize = 2;
+
+/// The greatest number of shares.
+pub const MAX_SHARES: usize = 8;
+
+/// The least number of bits in a string.
+pub const MIN_BITS: usize = 1;
+
+/// The greatest number of bits in a string.
+pub const MAX_BITS: usize = 16;
+
+/// The most random words that a sample takes, and the length of the word buffer of [`lesson_text`](crate::lesson_text).
+pub const MAX_WORDS: usize = 1_792;
+
+/// The most bytes of a lesson file.
+pub const MAX_FILE: usize = 60_000;
+
+/// The random words that [`convert_bit`](crate::convert_bit) takes: n(n - 1). At the end of the number range this and the next two stay there.
+pub const fn bit_words(n: usize) -> usize {
+    n.saturating_mul(n.saturating_sub(1))
+}
+
+/// The random words that [`sample`](crate::sample) takes: 2kn(n - 1).
+pub const fn sample_words(n: usize, k: usize) -> usize {
+    sample_work(n, k).saturating_mul(n.saturating_sub(1))
+}
+
+/// The words of work area that [`sample`](crate::sample) takes: 2kn.
+pub const fn sample_work(n: usize, k: usize) -> usize {
+    k.saturating_mul(2).saturating_mul(n)
+}
+
+/// The bytes that the text buffer of [`lesson_text`](crate::lesson_text) must have for a file of so many.
+pub const fn text_room(file_len: usize) -> usize {
+    if file_len > MAX_FILE {
+        45
+    } else {
+        3 * file_len + 45
+    }
+}
