@@ -81,25 +81,20 @@ pub struct tp_parameters {
     pub q: u16,
 }
 
-/// The bytes 0, 1, 2 and so on.
-const fn ascending<const N: usize>() -> [u8; N] {
-    let mut bytes = [0; N];
-    let mut i = 0;
-    while i < N {
-        bytes[i] = i as u8;
-        i += 1;
-    }
-    bytes
-}
-
 /// Does not compile where a struct has another size or alignment, or other fields, types or offsets, than C's on x86-64. In a struct whose
 /// bytes ascend from 0, the first byte of a field is its offset.
 macro_rules! layout {
     ($name:ident, size $size:literal, alignment $alignment:literal, $($field:ident $(.$inner:ident)?: $type:ty, at $offset:literal;)+) => {
         const _: () = {
             assert!(size_of::<$name>() == $size && align_of::<$name>() == $alignment);
+            let mut ascending = [0u8; $size];
+            let mut i = 1;
+            while i < $size {
+                ascending[i] = i as u8;
+                i += 1;
+            }
             // Every field is a number or a struct of one number, so any bytes will do.
-            let $name { $($field),+ } = unsafe { transmute::<[u8; $size], $name>(ascending()) };
+            let $name { $($field),+ } = unsafe { transmute::<[u8; $size], $name>(ascending) };
             $(assert!(<$type>::to_ne_bytes($field $(.$inner)?)[0] == $offset);)+
         };
     };
