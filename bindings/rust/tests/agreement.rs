@@ -1,0 +1,145 @@
+//! The sizes and numbers of this crate are those of the library that it calls.
+
+use tinplateau::*;
+
+/// A modulus that every k allows.
+const Q: u16 = 3_329;
+
+fn refused<T>(reason: Reason, position: usize) -> Result<T, Refusal> {
+    Err(Refusal { reason, position })
+}
+
+/// A sample of zeros with lists of these lengths.
+fn sample_of(n: usize, k: usize, q: u16, words: usize, out: usize, work: usize) -> Result<usize, Refusal> {
+    let shares = vec![0; n];
+    sample(n, k, q, &shares, &shares, &vec![0; words], &mut vec![0; out], &mut vec![0; work])
+}
+
+/// A converted bit 0 with lists of these lengths.
+fn bit_of(n: usize, words: usize, out: usize) -> Result<usize, Refusal> {
+    convert_bit(n, Q, &vec![0; n], &vec![0; words], &mut vec![0; out])
+}
+
+/// The text of a file in a buffer of so many bytes.
+fn text_of(file: &[u8], room: usize) -> Result<String, Refusal> {
+    let mut text = vec![0; room];
+    let len = lesson_text(file, &mut [0; MAX_WORDS], &mut text)?;
+    Ok(String::from_utf8(text[..len].to_vec()).expect("ASCII"))
+}
+
+#[test]
+fn sample_sizes_are_exact() {
+    for n in MIN_SHARES..=MAX_SHARES {
+        for k in MIN_BITS..=MAX_BITS {
+            let (words, work) = (sample_words(n, k), sample_work(n, k));
+            for q in [2 * k as u16 + 1, Q, u16::MAX] {
+                assert_eq!(sample_of(n, k, q, words, n, work), Ok(words));
+                assert_eq!(sample_of(n, k, q, words - 1, n, work), refused(Reason::WordCount, 0));
+                assert_eq!(sample_of(n, k, q, words, n - 1, work), refused(Reason::OutputRoom, 0));
+                assert_eq!(sample_of(n, k, q, words, n, work - 1), refused(Reason::WorkRoom, 0));
+            }
+        }
+    }
+}
+
+#[test]
+fn bit_sizes_are_exact() {
+    for n in MIN_SHARES..=MAX_SHARES {
+        assert_eq!(bit_of(n, bit_words(n), n), Ok(bit_words(n)));
+        assert_eq!(bit_of(n, bit_words(n) - 1, n), refused(Reason::WordCount, 0));
+        assert_eq!(bit_of(n, bit_words(n), n - 1), refused(Reason::OutputRoom, 0));
+    }
+}
+
+#[test]
+fn sizes_of_unfit_numbers_do_not_overflow() {
+    assert_eq!([bit_words(0), sample_words(0, 0), sample_work(0, 0)], [0; 3]);
+    assert_eq!([bit_words(usize::MAX), sample_words(usize::MAX, 1), sample_work(usize::MAX, 1)], [usize::MAX; 3]);
+    assert_eq!(text_room(usize::MAX), 45);
+}
+
+#[test]
+fn ranges_are_exact() {
+    for n in [MIN_SHARES - 1, MAX_SHARES + 1] {
+        assert_eq!(sample_of(n, 1, Q, sample_words(n, 1), n, sample_work(n, 1)), refused(Reason::ShareCount, 0));
+    }
+    for k in [MIN_BITS - 1, MAX_BITS + 1] {
+        assert_eq!(sample_of(2, k, Q, sample_words(2, k), 2, sample_work(2, k)), refused(Reason::StringLength, 0));
+    }
+    assert_eq!(sample_words(MAX_SHARES, MAX_BITS), MAX_WORDS);
+    assert_eq!(lesson_text(&[], &mut [0; MAX_WORDS - 1], &mut [0; 45]), refused(Reason::WordCount, 0));
+}
+
+#[test]
+fn text_room_is_exact() {
+    for len in [0, 1, 30, MAX_FILE - 1, MAX_FILE, MAX_FILE + 1, 2 * MAX_FILE] {
+        let file = vec![0; len];
+        assert!(text_of(&file, text_room(len)).is_ok());
+        assert_eq!(text_of(&file, text_room(len) - 1), refused(Reason::OutputRoom, 0));
+    }
+}
+
+#[test]
+fn every_reason_of_a_call_is_met() {
+    let (mut out, mut work) = ([0; 2], [0; 4]);
+    let mut sampled = |q, x: &[u16], y: &[u16], words: &[u16]| sample(2, 1, q, x, y, words, &mut out, &mut work).map(drop);
+    let bits = [1, 0];
+    let mut met = vec![
+        (sampled(2, &bits, &bits, &[0; 4]), 3, Reason::Modulus, 0),
+        (sampled(3, &[0; 3], &bits, &[0; 4]), 4, Reason::XCount, 0),
+        (sampled(3, &bits, &[0; 3], &[0; 4]), 5, Reason::YCount, 0),
+        (sampled(3, &[0, 2], &bits, &[0; 4]), 6, Reason::XWidth, 1),
+        (sampled(3, &bits, &[0, 2], &[0; 4]), 7, Reason::YWidth, 1),
+        (sampled(3, &bits, &bits, &[0; 3]), 8, Reason::WordCount, 0),
+        (sampled(3, &bits, &bits, &[0, 0, 0, 3]), 9, Reason::WordRange, 3),
+    ];
+    met.extend([
+        (sample_of(1, 1, 3, 4, 2, 4).map(drop), 1, Reason::ShareCount, 0),
+        (sample_of(2, 0, 3, 4, 2, 4).map(drop), 2, Reason::StringLength, 0),
+        (sample_of(2, 1, 3, 4, 1, 4).map(drop), 10, Reason::OutputRoom, 0),
+        (sample_of(2, 1, 3, 4, 2, 3).map(drop), 11, Reason::WorkRoom, 0),
+        (weight_difference(1, OpenedString(1), OpenedString(2)).map(drop), 12, Reason::ValueWidth, 1),
+        (mask(3, 1, OpenedString(1), &[0; 3], &mut [0; 3]).map(drop), 13, Reason::MaskCount, 0),
+        (mask(3, 1, OpenedString(1), &[0, 2], &mut [0; 3]).map(drop), 14, Reason::MaskWidth, 1),
+        (open_residue(2, 3, &[0; 3]).map(drop), 15, Reason::ArithmeticCount, 0),
+        (open_residue(2, 3, &[0, 3]).map(drop), 16, Reason::ArithmeticRange, 1),
+        (centre(3, OpenedResidue(3)).map(drop), 17, Reason::ResidueRange, 0),
+        (parameter_set(8).map(drop), 22, Reason::SetNumber, 0),
+    ]);
+    for (found, number, reason, position) in &met {
+        assert_eq!((*found, *number), (refused(*reason, *position), reason.number()));
+    }
+    assert_eq!(met.len(), 18);
+}
+
+#[test]
+fn every_reason_of_a_file_is_met() {
+    let many = [b"PM\x02\x01\x03\0XB\0\0\0\0YB\0\0\0\0RW".to_vec(), (MAX_WORDS as u16 + 1).to_le_bytes().to_vec()].concat();
+    let most = [&many[..20], &(MAX_WORDS as u16).to_le_bytes()].concat();
+    let files = [
+        (b"XB".to_vec(), Reason::Mark, 18, 0),
+        (b"P".to_vec(), Reason::CutShort, 19, 0),
+        (most, Reason::CutShort, 19, 18),
+        (many, Reason::WordLimit, 20, 18),
+        (vec![0; MAX_FILE], Reason::Mark, 18, 0),
+        (vec![0; MAX_FILE + 1], Reason::FileLength, 21, 0),
+    ];
+    for (file, reason, number, place) in files {
+        let text = format!("no n k q used sample shares\nrefused {number} {place}\n");
+        assert_eq!((text_of(&file, text_room(file.len())), reason.number()), (Ok(text), number));
+    }
+}
+
+#[test]
+fn numbers_and_reasons_are_one_to_one() {
+    for number in 1..=22 {
+        assert_eq!(Reason::from_number(number).map(Reason::number), Some(number));
+    }
+    assert_eq!([0, 23, u32::MAX].map(Reason::from_number), [None; 3]);
+}
+
+#[test]
+fn a_refusal_says_number_position_and_reason() {
+    let refusal = Refusal { reason: Reason::WordRange, position: 2 };
+    assert_eq!(refusal.to_string(), "refused with 9 at position 2: a random word is not below q");
+}
