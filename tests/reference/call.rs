@@ -1,7 +1,7 @@
-//! A call of the C interface with its inputs: what it should leave behind, worked out from document 01, and what the library leaves behind.
+//! A call of the library with its inputs, and what it should leave behind, worked out from document 01.
 
 use crate::calls::{centre, convert_bit, mask, open_residue, open_string, parameter_set, sample, weight_difference, Verdict};
-use crate::interface::*;
+use crate::lent::{guarded, unguarded, GUARDS};
 use crate::lesson::{lesson, MOST_BYTES, MOST_WORDS};
 use crate::show::{difference, hex};
 
@@ -77,12 +77,8 @@ pub struct Answer {
     pub value: i64,
 }
 
-fn answer(code: u32, place: usize, value: i64) -> Answer {
-    Answer { code: code as u64, place: place as u64, value }
-}
-
 /// Accepted with a place and a value, or refused with a number and a place.
-fn judged<T>(verdict: Verdict<T>, accepted: impl Fn(T) -> (u64, i64)) -> Answer {
+pub fn judged<T>(verdict: Verdict<T>, accepted: impl Fn(T) -> (u64, i64)) -> Answer {
     match verdict {
         Ok(result) => {
             let (place, value) = accepted(result);
@@ -92,91 +88,21 @@ fn judged<T>(verdict: Verdict<T>, accepted: impl Fn(T) -> (u64, i64)) -> Answer 
     }
 }
 
-fn counted(verdict: Verdict<u64>) -> Answer {
+pub fn counted(verdict: Verdict<u64>) -> Answer {
     judged(verdict, |count| (count, 0))
-}
-
-impl From<Counted> for Answer {
-    fn from(found: Counted) -> Answer {
-        answer(found.code, found.value, 0)
-    }
-}
-
-impl From<OpenedString> for Answer {
-    fn from(found: OpenedString) -> Answer {
-        answer(found.code, found.position, found.opened.bits as i64)
-    }
-}
-
-impl From<OpenedResidue> for Answer {
-    fn from(found: OpenedResidue) -> Answer {
-        answer(found.code, found.position, found.opened.value as i64)
-    }
-}
-
-impl From<Signed> for Answer {
-    fn from(found: Signed) -> Answer {
-        answer(found.code, found.position, found.value as i64)
-    }
-}
-
-impl From<Parameters> for Answer {
-    fn from(found: Parameters) -> Answer {
-        answer(found.code, found.k, found.q as i64)
-    }
-}
-
-/// So many elements that are not lent stand before each list, and as many behind it.
-const GUARDS: usize = 64;
-
-/// A list between its guard elements, no two neighbours of which are equal and none of which is 0.
-fn guarded(list: &[u64]) -> Vec<u64> {
-    let guard = |place: usize| 1 + 37 * place as u64 % 251;
-    let (before, behind) = ((0..GUARDS).map(guard), (GUARDS..2 * GUARDS).map(guard));
-    before.chain(list.iter().copied()).chain(behind).collect()
-}
-
-/// A list in memory between its guard elements. The pointer of an empty one may be null.
-struct Lent<T> {
-    whole: Vec<T>,
-    null: bool,
-}
-
-impl<T: Copy + TryFrom<u64> + Into<u64>> Lent<T> {
-    fn new(list: &[u64], null: bool) -> Lent<T> {
-        let fit = |x: u64| T::try_from(x).unwrap_or_else(|_| panic!("{x} does not fit in an element"));
-        Lent { whole: guarded(list).into_iter().map(fit).collect(), null: null && list.is_empty() }
-    }
-
-    fn len(&self) -> usize {
-        self.whole.len() - 2 * GUARDS
-    }
-
-    fn start(&mut self) -> *mut T {
-        if self.null {
-            std::ptr::null_mut()
-        } else {
-            self.whole.as_mut_ptr().wrapping_add(GUARDS)
-        }
-    }
-
-    fn whole(self) -> Vec<u64> {
-        self.whole.into_iter().map(T::into).collect()
-    }
 }
 
 /// How a call ends: its answer, and each list with its guard elements.
 #[derive(PartialEq, Eq)]
 pub struct Outcome {
     pub answer: Answer,
-    guarded: Vec<Vec<u64>>,
+    pub guarded: Vec<Vec<u64>>,
 }
 
 impl Outcome {
     /// A list without its guard elements.
     pub fn list(&self, place: usize) -> &[u64] {
-        let whole = &self.guarded[place];
-        &whole[GUARDS..whole.len() - GUARDS]
+        unguarded(&self.guarded[place])
     }
 }
 
@@ -208,10 +134,6 @@ pub fn bytes(list: &[u64]) -> Vec<u8> {
     list.iter().map(|x| *x as u8).collect()
 }
 
-fn bits(string: u64) -> BitString {
-    BitString { bits: string as u16 }
-}
-
 pub struct Call {
     pub function: Function,
     pub numbers: Vec<u64>,
@@ -239,57 +161,6 @@ impl Call {
             _ => panic!("the inputs of another function"),
         };
         Outcome { answer, guarded: lists.iter().map(|list| guarded(list)).collect() }
-    }
-
-    /// What the library does. The pointer of an empty list is null if asked for.
-    pub fn found(&self, null: bool) -> Outcome {
-        if self.function == Function::LessonText {
-            return self.lesson_text_found(null);
-        }
-        let mut lent: Vec<Lent<u16>> = self.lists.iter().map(|list| Lent::new(list, null)).collect();
-        // Every list is readable and writable for its length, and they do not overlap.
-        let answer = unsafe {
-            match (self.function, &self.numbers[..], &mut lent[..]) {
-                (Function::Mask, &[n, k, value], [masks, out]) => {
-                    tp_mask(n as usize, k as usize, bits(value), masks.start(), masks.len(), out.start(), out.len()).into()
-                }
-                (Function::OpenString, &[n, k], [shares]) => tp_open_string(n as usize, k as usize, shares.start(), shares.len()).into(),
-                (Function::OpenResidue, &[n, q], [shares]) => tp_open_residue(n as usize, q as u16, shares.start(), shares.len()).into(),
-                (Function::Centred, &[q, r], []) => tp_centred(q as u16, Residue { value: r as u16 }).into(),
-                (Function::WeightDifference, &[k, x, y], []) => tp_weight_difference(k as usize, bits(x), bits(y)).into(),
-                (Function::ParameterSet, &[number], []) => tp_parameter_set(number as usize).into(),
-                (Function::ConvertBit, &[n, q], [bits, words, out]) => {
-                    let (bits_len, words_len, out_len) = (bits.len(), words.len(), out.len());
-                    tp_convert_bit(n as usize, q as u16, bits.start(), bits_len, words.start(), words_len, out.start(), out_len).into()
-                }
-                (Function::Sample, &[n, k, q], [x, y, words, out, work]) => tp_sample(
-                    n as usize,
-                    k as usize,
-                    q as u16,
-                    x.start(),
-                    x.len(),
-                    y.start(),
-                    y.len(),
-                    words.start(),
-                    words.len(),
-                    out.start(),
-                    out.len(),
-                    work.start(),
-                    work.len(),
-                )
-                .into(),
-                _ => panic!("the inputs of another function"),
-            }
-        };
-        Outcome { answer, guarded: lent.into_iter().map(Lent::whole).collect() }
-    }
-
-    fn lesson_text_found(&self, null: bool) -> Outcome {
-        let [file, words, text] = &self.lists[..] else { panic!("a file and two buffers") };
-        let (mut file, mut words, mut text) = (Lent::<u8>::new(file, null), Lent::<u16>::new(words, null), Lent::<u8>::new(text, null));
-        // As above.
-        let found = unsafe { tp_lesson_text(file.start(), file.len(), words.start(), words.len(), text.start(), text.len()) };
-        Outcome { answer: found.into(), guarded: vec![file.whole(), words.whole(), text.whole()] }
     }
 
     /// The inputs by name, long lists in part.

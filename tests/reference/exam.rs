@@ -83,7 +83,7 @@ impl Line {
 
     /// Every field of the other line stands here too. One without numbers may have any.
     fn has(&self, other: &Line) -> bool {
-        let stands = |(name, numbers): &(String, Vec<i64>)| self.field(name).is_some_and(|found| numbers.is_empty() || numbers == found);
+        let stands = |(name, numbers): &(String, Vec<i64>)| self.field(name).map_or(false, |found| numbers.is_empty() || numbers == found);
         other.fields.iter().all(stands)
     }
 

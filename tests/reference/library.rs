@@ -1,4 +1,5 @@
-//! The library's C interface, compared with the second reading of document 01 that this folder holds.
+//! The library, called through its C interface and through the Rust bindings, compared with the second reading of document 01 that this folder
+//! holds.
 //!
 //! `library SEED COUNT` compares so many calls made from the seed, and counts the secrecy rule through the library.
 
@@ -6,8 +7,9 @@ mod call;
 mod calls;
 mod draw;
 mod files;
+mod found;
 mod inputs;
-mod interface;
+mod lent;
 mod lesson;
 mod met;
 mod secrecy;
@@ -15,6 +17,8 @@ mod show;
 mod tally;
 
 use call::{bytes, Call, Function, Outcome};
+use draw::Dice;
+use found::Layer;
 use lesson::{lesson, MOST_BYTES, MOST_WORDS};
 use met::Met;
 use std::collections::BTreeSet;
@@ -29,9 +33,11 @@ const MOST_DIFFERENCES: usize = 5;
 
 #[derive(Default)]
 struct Comparison {
+    seed: u64,
     compared: usize,
     differences: usize,
-    met: Met,
+    through_c: Met,
+    through_slices: Met,
     lessons: Tally,
     file_lengths: BTreeSet<usize>,
 }
@@ -42,14 +48,21 @@ impl Comparison {
         eprintln!("{}\n{text}", call.show());
     }
 
+    /// What the next call goes through: each layer for one half, drawn from the seed.
+    fn layer(&self) -> Layer {
+        let mut dice = Dice::new(!self.seed, self.compared as u64);
+        dice.pick(&[Layer::C { null: false }, Layer::C { null: true }, Layer::Slices, Layer::Slices])
+    }
+
     /// What the library makes of the call, which is what it should.
     fn compare(&mut self, call: &Call) -> Outcome {
-        let null = self.compared % 2 == 0;
-        let (found, want) = (call.found(null), call.expected());
+        let layer = self.layer();
+        let (found, want) = (call.found(layer), call.expected());
         self.compared += 1;
-        self.met.count(call, want.answer);
+        let met = if layer == Layer::Slices { &mut self.through_slices } else { &mut self.through_c };
+        met.count(call, want.answer);
         if found != want {
-            self.differs(call, &call.show_difference(&found, &want));
+            self.differs(call, &format!("  through {layer:?}\n{}", call.show_difference(&found, &want)));
         }
         found
     }
@@ -62,7 +75,7 @@ impl Comparison {
 
     /// The shares of an accepted sample open to the weight difference of the opened strings.
     fn open_sample(&mut self, call: &Call, outcome: &Outcome) {
-        let &[n, k, q] = &call.numbers[..] else { panic!("n, k and q") };
+        let [n, k, q] = <[u64; 3]>::try_from(&call.numbers[..]).expect("n, k and q");
         let (x, y, shares) = (&call.lists[0], &call.lists[1], &outcome.list(3)[..n as usize]);
         let strings = [x, y].map(|list| self.value(Function::OpenString, &[n, k], &[list]) as u64);
         let difference = self.value(Function::WeightDifference, &[k, strings[0], strings[1]], &[]);
@@ -75,7 +88,7 @@ impl Comparison {
 
     /// The shares of an accepted masking call open to the value.
     fn open_mask(&mut self, call: &Call, outcome: &Outcome) {
-        let &[n, k, value] = &call.numbers[..] else { panic!("n, k and the value") };
+        let [n, k, value] = <[u64; 3]>::try_from(&call.numbers[..]).expect("n, k and the value");
         let shares = &outcome.list(1)[..n as usize];
         if self.value(Function::OpenString, &[n, k], &[shares]) != value as i64 {
             self.differs(call, &format!("  the shares {shares:?} do not open to {value}"));
@@ -103,7 +116,7 @@ impl Comparison {
         let lengths = [MOST_BYTES, MOST_BYTES + 1];
         let missing: Vec<usize> = lengths.into_iter().filter(|length| !self.file_lengths.contains(length)).collect();
         let gaps: Vec<String> = missing.iter().map(|length| format!("no file of {length} bytes")).collect();
-        self.met.print() + self.lessons.print() + print_gaps(&gaps)
+        self.through_c.print("the C functions") + self.through_slices.print("the Rust bindings") + self.lessons.print() + print_gaps(&gaps)
     }
 }
 
@@ -113,7 +126,7 @@ fn agrees(seed: u64, count: usize) -> bool {
         eprintln!("{count} calls are too few, at least {FEWEST_CALLS} are made");
         return false;
     }
-    let mut comparison = Comparison::default();
+    let mut comparison = Comparison { seed, ..Comparison::default() };
     for number in 0..count {
         comparison.take(&inputs::made(seed, number));
         if comparison.differences >= MOST_DIFFERENCES {
@@ -129,7 +142,7 @@ fn agrees(seed: u64, count: usize) -> bool {
 fn main() {
     let arguments: Vec<String> = std::env::args().skip(1).collect();
     let numbers: Vec<u64> = arguments.iter().map(|text| text.parse().unwrap_or_else(|_| panic!("{text:?} is no number"))).collect();
-    let &[seed, count] = &numbers[..] else { panic!("SEED COUNT") };
+    let [seed, count] = <[u64; 2]>::try_from(numbers).expect("SEED COUNT");
     if !(agrees(seed, count as usize) && secrecy::holds()) {
         exit(1);
     }

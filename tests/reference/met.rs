@@ -14,7 +14,7 @@ struct Counts {
     pairs: BTreeSet<(u64, u64)>,
 }
 
-/// Counts over all calls.
+/// Counts over all calls of a layer.
 #[derive(Default)]
 pub struct Met {
     functions: BTreeMap<Function, Counts>,
@@ -32,20 +32,25 @@ impl Met {
         }
     }
 
-    /// Prints a line for each function, and what is missing. Answers how much that is.
-    pub fn print(&self) -> usize {
+    /// Prints what the calls went through and a line for each function, and what is missing. Answers how much that is.
+    pub fn print(&self, layer: &str) -> usize {
+        println!("  {} calls through {layer}:", self.functions.values().map(Counts::all).sum::<usize>());
         let none = Counts::default();
         let mut gaps = Vec::new();
         for function in FUNCTIONS {
             let counts = self.functions.get(&function).unwrap_or(&none);
             println!("  {}", counts.line(function));
-            gaps.extend(counts.gaps(function));
+            gaps.extend(counts.gaps(function).into_iter().map(|gap| format!("{layer}: {gap}")));
         }
         print_gaps(&gaps)
     }
 }
 
 impl Counts {
+    fn all(&self) -> usize {
+        self.by_code.values().sum()
+    }
+
     fn times(&self, code: u64) -> usize {
         self.by_code.get(&code).copied().unwrap_or(0)
     }
@@ -61,8 +66,7 @@ impl Counts {
             format!("{number}: {}{places}", self.times(*number))
         };
         let refusals: Vec<String> = form.refusals.iter().map(refusal).collect();
-        let all: usize = self.by_code.values().sum();
-        format!("{} {all}, accepted {}, refused {}", form.name, self.times(0), refusals.join(", "))
+        format!("{} {}, accepted {}, refused {}", form.name, self.all(), self.times(0), refusals.join(", "))
     }
 
     /// What the calls should have met and did not: each refusal, at the first and the last place, and acceptance with every n and k.

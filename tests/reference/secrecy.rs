@@ -1,21 +1,20 @@
 //! The secrecy rule of document 01, counted: over all full word lists, any n − 1 shares take each of their values equally often for every
 //! input.
 
-use crate::interface::{tp_convert_bit, tp_sample, Counted};
+use std::collections::BTreeMap;
+use tinplateau::Refusal;
 
-/// A call on shared bits with a full list of words. The lists are slices, so each is as long as said, and they do not overlap.
-type Maker = fn(q: u16, bits: &[u16], words: &[u16], out: &mut [u16]) -> Counted;
+/// A call on shared bits with a full list of words, which answers how many it used.
+type Maker = fn(q: u16, bits: &[u16], words: &[u16], out: &mut [u16]) -> Result<usize, Refusal>;
 
-fn convert_bit(q: u16, bits: &[u16], words: &[u16], out: &mut [u16]) -> Counted {
-    unsafe { tp_convert_bit(out.len(), q, bits.as_ptr(), bits.len(), words.as_ptr(), words.len(), out.as_mut_ptr(), out.len()) }
+fn convert_bit(q: u16, bits: &[u16], words: &[u16], out: &mut [u16]) -> Result<usize, Refusal> {
+    tinplateau::convert_bit(out.len(), q, bits, words, out)
 }
 
 /// A sample with k 1: the shares of x, then those of y.
-fn sample(q: u16, bits: &[u16], words: &[u16], out: &mut [u16]) -> Counted {
-    let n = out.len();
-    let (x, y) = (bits[..n].as_ptr(), bits[n..].as_ptr());
-    let mut work = [0; 16];
-    unsafe { tp_sample(n, 1, q, x, n, y, n, words.as_ptr(), words.len(), out.as_mut_ptr(), n, work.as_mut_ptr(), work.len()) }
+fn sample(q: u16, bits: &[u16], words: &[u16], out: &mut [u16]) -> Result<usize, Refusal> {
+    let (x, y) = bits.split_at(out.len());
+    tinplateau::sample(out.len(), 1, q, x, y, words, out, &mut [0; 16])
 }
 
 /// Goes on to the next list of numbers below the bound. After the last it answers false.
@@ -35,8 +34,7 @@ fn counts(make: Maker, q: u16, n: usize, bits: &[u16]) -> Vec<Vec<usize>> {
     let mut counts = vec![vec![0; (q as usize).pow(n as u32 - 1)]; n];
     let (mut words, mut out) = (vec![0; bits.len() * (n - 1)], vec![0; n]);
     loop {
-        let answer = make(q, bits, &words, &mut out);
-        assert_eq!((answer.code, answer.value), (0, words.len()), "bits {bits:?}, words {words:?}");
+        assert_eq!(make(q, bits, &words, &mut out), Ok(words.len()), "bits {bits:?}, words {words:?}");
         for (left_out, counts) in counts.iter_mut().enumerate() {
             let others = out[..left_out].iter().chain(&out[left_out + 1..]);
             counts[others.fold(0, |number, share| number * q as usize + *share as usize)] += 1;
@@ -65,10 +63,100 @@ fn is_even(name: &str, make: Maker, bits: usize, n: usize, q: u16) -> bool {
     true
 }
 
+/// The modulus of document 01's example, in which a learner sees one share of a sample with n 2 and k 1.
+const Q: u16 = 17;
+
+/// All word lists of such a sample, and one for each value of a share.
+const LISTS: usize = 83_521;
+const EVEN: usize = 4_913;
+
+/// The shares of a bit where step 3 uses the word of step 2 again: document 01's third habit to break, with n 2.
+fn bit_by_habit(bits: &[u16], word: u16) -> [i32; 2] {
+    let (b1, b2, r) = (bits[0] as i32, bits[1] as i32, word as i32);
+    [(b1 - r) * (1 - 2 * b2) + b2 + r, r * (1 - 2 * b2) - r]
+}
+
+/// The sample with n 2 and k 1 by that habit. Its shares still add up.
+fn sample_by_habit(q: u16, bits: &[u16], words: &[u16], out: &mut [u16]) -> Result<usize, Refusal> {
+    let (x, y) = (bit_by_habit(&bits[..2], words[0]), bit_by_habit(&bits[2..], words[2]));
+    for (share, (x, y)) in out.iter_mut().zip(x.iter().zip(y)) {
+        *share = (x - y).rem_euclid(q as i32) as u16;
+    }
+    assert_eq!((out[0] + out[1]) % q, (q + (bits[0] ^ bits[1]) - (bits[2] ^ bits[3])) % q, "bits {bits:?}, words {words:?}");
+    Ok(words.len())
+}
+
+/// How often the habit gives a first share, by hand. A bit's first share is b1 where b2 is 0. Else it is 1 - b1 + 2r, which takes every value
+/// as r does, since q is odd.
+fn times_by_habit(seen: u16, bits: [u16; 4]) -> usize {
+    match bits {
+        [x1, 0, y1, 0] if (Q + x1 - y1) % Q == seen => LISTS,
+        [_, 0, _, 0] => 0,
+        _ => EVEN,
+    }
+}
+
+/// Every sharing of a bit x and a bit y, the shares of x first, that has the sample.
+fn sharings(sample: i32) -> impl Iterator<Item = [u16; 4]> {
+    let lists = (0..16).map(|number| [number >> 3 & 1, number >> 2 & 1, number >> 1 & 1, number & 1]);
+    lists.filter(move |[x1, x2, y1, y2]| (x1 ^ x2) as i32 - (y1 ^ y2) as i32 == sample)
+}
+
+/// How often a first share is seen over all word lists, as it is printed: for how many sharings how often.
+fn spread(sharings_by_count: &BTreeMap<usize, usize>) -> String {
+    let all: usize = sharings_by_count.values().sum();
+    let part = |(count, sharings): (&usize, &usize)| match *sharings {
+        sharings if sharings == all => format!("{count} of {LISTS} word lists for each of {all} sharings"),
+        sharings => format!("{count} of {LISTS} word lists for {sharings} of {all} sharings"),
+    };
+    sharings_by_count.iter().map(part).collect::<Vec<_>>().join("; ")
+}
+
+/// A way to sample, how often it gives a first share for a sharing, and whether that is the same for all.
+struct Way {
+    name: &'static str,
+    make: Maker,
+    times: fn(seen: u16, bits: [u16; 4]) -> usize,
+    even: bool,
+}
+
+/// The library's, and document 01's third habit.
+const WAYS: [Way; 2] = [
+    Way { name: "", make: sample, times: |_, _| EVEN, even: true },
+    Way { name: ", a bit's words used again", make: sample_by_habit, times: times_by_habit, even: false },
+];
+
+impl Way {
+    /// Prints how often a first share is seen for a sample. Answers whether that is right.
+    fn is_right_for(&self, seen: u16, sample: i32) -> bool {
+        let mut sharings_by_count: BTreeMap<usize, usize> = BTreeMap::new();
+        let mut right = true;
+        for bits in sharings(sample) {
+            let count = counts(self.make, Q, 2, &bits)[1][seen as usize];
+            *sharings_by_count.entry(count).or_default() += 1;
+            right &= count == (self.times)(seen, bits);
+        }
+        right &= (sharings_by_count.len() == 1) == self.even;
+        let fault = if right { "" } else { ", which is wrong" };
+        println!("  {seen} as the first share, n 2 k 1 q {Q}{}: sample {sample}: {}{fault}", self.name, spread(&sharings_by_count));
+        right
+    }
+
+    fn is_right(&self, seen: u16) -> bool {
+        [-1, 0, 1].map(|sample| self.is_right_for(seen, sample)) == [true; 3]
+    }
+}
+
+/// The first share of document 01's example, 7, tells a learner nothing, and no more does a 1. With the habit 7 would leave out some
+/// sharings, and 1 would speak for the sample 1.
+fn first_share_tells_nothing() -> bool {
+    [7, 1].map(|seen| WAYS.map(|way| way.is_right(seen))) == [[true; 2]; 2]
+}
+
 /// The one-bit call, and the sampler with k 1.
 pub fn holds() -> bool {
     println!("secrecy: how often each value of the other shares occurs over all word lists");
-    let even = [
+    let right = [
         is_even("tp_convert_bit", convert_bit, 1, 2, 3),
         is_even("tp_convert_bit", convert_bit, 1, 2, 4),
         is_even("tp_convert_bit", convert_bit, 1, 2, 5),
@@ -77,6 +165,7 @@ pub fn holds() -> bool {
         is_even("tp_sample k 1", sample, 2, 2, 4),
         is_even("tp_sample k 1", sample, 2, 2, 5),
         is_even("tp_sample k 1", sample, 2, 3, 3),
+        first_share_tells_nothing(),
     ];
-    even.iter().all(|even| *even)
+    right.iter().all(|right| *right)
 }

@@ -1,0 +1,164 @@
+//! What the library makes of a call, through the C functions and through the safe layer of the Rust bindings. The bindings only call: what
+//! is expected uses no size, number or constant of theirs.
+
+use crate::call::{counted, judged, Answer, Call, Function, Outcome};
+use crate::calls::Verdict;
+use crate::lent::Lent;
+use tinplateau::ffi::{self, *};
+use tinplateau::{OpenedResidue, OpenedString, Refusal};
+
+/// What a call goes through.
+#[derive(Clone, Copy, Debug, PartialEq, Eq)]
+pub enum Layer {
+    /// The C functions. The pointer of an empty list is null if so said.
+    C { null: bool },
+    /// The functions over slices.
+    Slices,
+}
+
+fn answer(code: u32, place: usize, value: i64) -> Answer {
+    Answer { code: code as u64, place: place as u64, value }
+}
+
+impl From<tp_answer> for Answer {
+    fn from(found: tp_answer) -> Answer {
+        answer(found.code, found.value, 0)
+    }
+}
+
+impl From<tp_opened_string> for Answer {
+    fn from(found: tp_opened_string) -> Answer {
+        answer(found.code, found.position, found.opened.bits as i64)
+    }
+}
+
+impl From<tp_opened_residue> for Answer {
+    fn from(found: tp_opened_residue) -> Answer {
+        answer(found.code, found.position, found.opened.value as i64)
+    }
+}
+
+impl From<tp_signed> for Answer {
+    fn from(found: tp_signed) -> Answer {
+        answer(found.code, found.position, found.value as i64)
+    }
+}
+
+impl From<tp_parameters> for Answer {
+    fn from(found: tp_parameters) -> Answer {
+        answer(found.code, found.k, found.q as i64)
+    }
+}
+
+fn bits(string: u64) -> tp_string {
+    tp_string { bits: string as u16 }
+}
+
+fn string(bits: u64) -> OpenedString {
+    OpenedString(bits as u16)
+}
+
+/// A refusal of the safe layer as number and place.
+fn verdict<T>(result: Result<T, Refusal>) -> Verdict<T> {
+    result.map_err(|refusal| (refusal.reason.number() as u64, refusal.position))
+}
+
+fn count(result: Result<usize, Refusal>) -> Answer {
+    counted(verdict(result).map(|count| count as u64))
+}
+
+fn signed(result: Result<i32, Refusal>) -> Answer {
+    judged(verdict(result), |value| (0, value as i64))
+}
+
+impl Call {
+    /// How it ends through the layer.
+    pub fn found(&self, layer: Layer) -> Outcome {
+        if self.function == Function::LessonText {
+            return self.lesson_text(layer);
+        }
+        let null = layer == Layer::C { null: true };
+        let mut lent: Vec<Lent<u16>> = self.lists.iter().map(|list| Lent::new(list, null)).collect();
+        let answer = match layer {
+            Layer::C { .. } => self.through_c(&mut lent),
+            Layer::Slices => self.through_slices(&mut lent),
+        };
+        Outcome { answer, guarded: lent.into_iter().map(Lent::whole).collect() }
+    }
+
+    fn through_c(&self, lent: &mut [Lent<u16>]) -> Answer {
+        // Every list is readable and writable for its length, and they do not overlap.
+        unsafe {
+            match (self.function, &self.numbers[..], lent) {
+                (Function::Mask, &[n, k, value], [masks, out]) => {
+                    tp_mask(n as usize, k as usize, bits(value), masks.start(), masks.len(), out.start(), out.len()).into()
+                }
+                (Function::OpenString, &[n, k], [shares]) => tp_open_string(n as usize, k as usize, shares.start(), shares.len()).into(),
+                (Function::OpenResidue, &[n, q], [shares]) => tp_open_residue(n as usize, q as u16, shares.start(), shares.len()).into(),
+                (Function::Centred, &[q, r], []) => tp_centred(q as u16, tp_residue { value: r as u16 }).into(),
+                (Function::WeightDifference, &[k, x, y], []) => tp_weight_difference(k as usize, bits(x), bits(y)).into(),
+                (Function::ParameterSet, &[number], []) => tp_parameter_set(number as usize).into(),
+                (Function::ConvertBit, &[n, q], [bits, words, out]) => {
+                    let (bits_len, words_len, out_len) = (bits.len(), words.len(), out.len());
+                    tp_convert_bit(n as usize, q as u16, bits.start(), bits_len, words.start(), words_len, out.start(), out_len).into()
+                }
+                (Function::Sample, &[n, k, q], [x, y, words, out, work]) => tp_sample(
+                    n as usize,
+                    k as usize,
+                    q as u16,
+                    x.start(),
+                    x.len(),
+                    y.start(),
+                    y.len(),
+                    words.start(),
+                    words.len(),
+                    out.start(),
+                    out.len(),
+                    work.start(),
+                    work.len(),
+                )
+                .into(),
+                _ => panic!("the inputs of another function"),
+            }
+        }
+    }
+
+    fn through_slices(&self, lent: &mut [Lent<u16>]) -> Answer {
+        match (self.function, &self.numbers[..], lent) {
+            (Function::Mask, &[n, k, value], [masks, out]) => {
+                count(tinplateau::mask(n as usize, k as usize, string(value), masks.list(), out.list_mut()))
+            }
+            (Function::OpenString, &[n, k], [shares]) => {
+                judged(verdict(tinplateau::open_string(n as usize, k as usize, shares.list())), |opened| (0, opened.0 as i64))
+            }
+            (Function::OpenResidue, &[n, q], [shares]) => {
+                judged(verdict(tinplateau::open_residue(n as usize, q as u16, shares.list())), |opened| (0, opened.0 as i64))
+            }
+            (Function::Centred, &[q, r], []) => signed(tinplateau::centre(q as u16, OpenedResidue(r as u16))),
+            (Function::WeightDifference, &[k, x, y], []) => signed(tinplateau::weight_difference(k as usize, string(x), string(y))),
+            (Function::ParameterSet, &[number], []) => {
+                judged(verdict(tinplateau::parameter_set(number as usize)), |set| (set.k as u64, set.q as i64))
+            }
+            (Function::ConvertBit, &[n, q], [bits, words, out]) => {
+                count(tinplateau::convert_bit(n as usize, q as u16, bits.list(), words.list(), out.list_mut()))
+            }
+            (Function::Sample, &[n, k, q], [x, y, words, out, work]) => {
+                let (n, k, q) = (n as usize, k as usize, q as u16);
+                count(tinplateau::sample(n, k, q, x.list(), y.list(), words.list(), out.list_mut(), work.list_mut()))
+            }
+            _ => panic!("the inputs of another function"),
+        }
+    }
+
+    fn lesson_text(&self, layer: Layer) -> Outcome {
+        let null = layer == Layer::C { null: true };
+        let (mut file, mut text) = (Lent::<u8>::new(&self.lists[0], null), Lent::<u8>::new(&self.lists[2], null));
+        let mut words = Lent::<u16>::new(&self.lists[1], null);
+        let answer = match layer {
+            // As above.
+            Layer::C { .. } => unsafe { ffi::tp_lesson_text(file.start(), file.len(), words.start(), words.len(), text.start(), text.len()).into() },
+            Layer::Slices => count(tinplateau::lesson_text(file.list(), words.list_mut(), text.list_mut())),
+        };
+        Outcome { answer, guarded: vec![file.whole(), words.whole(), text.whole()] }
+    }
+}
