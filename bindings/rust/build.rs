@@ -2,14 +2,21 @@
 
 use std::env;
 use std::path::{Path, PathBuf};
-use std::process::Command;
+use std::process::{exit, Command};
 
 const NAME: &str = "libtinplateau.a";
+
+fn fail(text: &str) -> ! {
+    eprintln!("{text}");
+    exit(1)
+}
 
 /// The folder that the caller names, which must have the library.
 fn named() -> Option<PathBuf> {
     let folder = PathBuf::from(env::var_os("TINPLATEAU_LIB_DIR")?);
-    assert!(folder.join(NAME).is_file(), "TINPLATEAU_LIB_DIR is {}, where there is no {NAME}", folder.display());
+    if !folder.join(NAME).is_file() {
+        fail(&format!("TINPLATEAU_LIB_DIR is {}, where there is no {NAME}: set it to the folder that has it", folder.display()));
+    }
     Some(folder)
 }
 
@@ -28,13 +35,13 @@ fn built() -> Option<PathBuf> {
 }
 
 fn main() {
-    for variable in ["TINPLATEAU_LIB_DIR", "PKG_CONFIG_PATH", "PKG_CONFIG_LIBDIR", "PATH"] {
+    for variable in ["TINPLATEAU_LIB_DIR", "PKG_CONFIG_PATH", "PKG_CONFIG_LIBDIR"] {
         println!("cargo:rerun-if-env-changed={variable}");
     }
     println!("cargo:rerun-if-changed=build.rs");
-    let folder = named().or_else(installed).or_else(built).unwrap_or_else(|| {
-        panic!("{NAME} is not found: install Tinplateau, build it in its repository with `make lib`, or set TINPLATEAU_LIB_DIR to its folder")
-    });
+    let folder = named().or_else(installed).or_else(built);
+    let folder =
+        folder.unwrap_or_else(|| fail("there is no libtinplateau.a: install it, run `make lib` in its repository or set TINPLATEAU_LIB_DIR"));
     println!("cargo:rerun-if-changed={}", folder.join(NAME).display());
     println!("cargo:rustc-link-search=native={}", folder.display());
     println!("cargo:rustc-link-lib=static=tinplateau");

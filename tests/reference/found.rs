@@ -4,7 +4,7 @@
 use crate::call::{counted, judged, Answer, Call, Function, Outcome};
 use crate::calls::Verdict;
 use crate::lent::Lent;
-use tinplateau::ffi::{self, *};
+use tinplateau::ffi::*;
 use tinplateau::{OpenedResidue, OpenedString, Refusal};
 
 /// What a call goes through.
@@ -14,6 +14,13 @@ pub enum Layer {
     C { null: bool },
     /// The functions over slices.
     Slices,
+}
+
+impl Layer {
+    /// A list as it is lent there.
+    fn lent<T: Copy + TryFrom<u64> + Into<u64>>(self, list: &[u64]) -> Lent<T> {
+        Lent::new(list, self == Layer::C { null: true })
+    }
 }
 
 fn answer(code: u32, place: usize, value: i64) -> Answer {
@@ -77,8 +84,7 @@ impl Call {
         if self.function == Function::LessonText {
             return self.lesson_text(layer);
         }
-        let null = layer == Layer::C { null: true };
-        let mut lent: Vec<Lent<u16>> = self.lists.iter().map(|list| Lent::new(list, null)).collect();
+        let mut lent: Vec<Lent<u16>> = self.lists.iter().map(|list| layer.lent(list)).collect();
         let answer = match layer {
             Layer::C { .. } => self.through_c(&mut lent),
             Layer::Slices => self.through_slices(&mut lent),
@@ -151,12 +157,11 @@ impl Call {
     }
 
     fn lesson_text(&self, layer: Layer) -> Outcome {
-        let null = layer == Layer::C { null: true };
-        let (mut file, mut text) = (Lent::<u8>::new(&self.lists[0], null), Lent::<u8>::new(&self.lists[2], null));
-        let mut words = Lent::<u16>::new(&self.lists[1], null);
+        let (mut file, mut text): (Lent<u8>, Lent<u8>) = (layer.lent(&self.lists[0]), layer.lent(&self.lists[2]));
+        let mut words: Lent<u16> = layer.lent(&self.lists[1]);
         let answer = match layer {
             // As above.
-            Layer::C { .. } => unsafe { ffi::tp_lesson_text(file.start(), file.len(), words.start(), words.len(), text.start(), text.len()).into() },
+            Layer::C { .. } => unsafe { tp_lesson_text(file.start(), file.len(), words.start(), words.len(), text.start(), text.len()).into() },
             Layer::Slices => count(tinplateau::lesson_text(file.list(), words.list_mut(), text.list_mut())),
         };
         Outcome { answer, guarded: vec![file.whole(), words.whole(), text.whole()] }

@@ -1,5 +1,5 @@
 //! The secrecy rule of document 01, counted: over all full word lists, any n − 1 shares take each of their values equally often for every
-//! input.
+//! input. A habit that document 01 warns of breaks that, and the count shows it.
 
 use std::collections::BTreeMap;
 use tinplateau::Refusal;
@@ -66,7 +66,7 @@ fn is_even(name: &str, make: Maker, bits: usize, n: usize, q: u16) -> bool {
 /// The modulus of document 01's example, in which a learner sees one share of a sample with n 2 and k 1.
 const Q: u16 = 17;
 
-/// All word lists of such a sample, and one for each value of a share.
+/// All word lists of such a sample, and a seventeenth of them.
 const LISTS: usize = 83_521;
 const EVEN: usize = 4_913;
 
@@ -164,6 +164,7 @@ pub fn holds() -> bool {
         is_even("tp_sample k 1", sample, 2, 2, 3),
         is_even("tp_sample k 1", sample, 2, 2, 4),
         is_even("tp_sample k 1", sample, 2, 2, 5),
+        is_even("tp_sample k 1", sample, 2, 2, Q),
         is_even("tp_sample k 1", sample, 2, 3, 3),
         first_share_tells_nothing(),
     ];

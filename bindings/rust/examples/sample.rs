@@ -1,6 +1,6 @@
 //! Document 01's first reference value: sampled, opened and centred.
 
-use tinplateau::{centre, open_residue, sample, sample_work, sample_words, Refusal};
+use tinplateau::{centre, open_residue, sample, sample_words, sample_work, Refusal};
 
 const N: usize = 2;
 const K: usize = 1;

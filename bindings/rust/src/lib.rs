@@ -6,7 +6,7 @@ mod refusal;
 mod sizes;
 
 pub use refusal::{Reason, Refusal};
-pub use sizes::{bit_words, sample_work, sample_words, text_room, MAX_BITS, MAX_FILE, MAX_SHARES, MAX_WORDS, MIN_BITS, MIN_SHARES};
+pub use sizes::{bit_words, sample_words, sample_work, text_room, MAX_BITS, MAX_FILE, MAX_SHARES, MAX_WORDS, MIN_BITS, MIN_SHARES};
 
 /// An opened string: its k bits, bit 0 the lowest.
 ///
