@@ -52,8 +52,8 @@ bench: lib
 # The programs and the library come first: crates that do not depend on each other are then proved side by side, and the tests find all
 # below them proved. rt ci, whose last line is the last of all, starts from nothing.
 test:
+	@tools/prove fmt --check
 	@tools/setup
-	rt fmt --check
 	@tools/prove check lesson_program exam_program
 	@$(MAKE) --silent --no-print-directory lib
 	tests/docs
