@@ -1,4 +1,4 @@
-//! Document 01's first reference value: sampled, opened and centred.
+//! A sample: made, opened and centred.
 
 use tinplateau::{centre, open_residue, sample, sample_words, sample_work, Refusal};
 

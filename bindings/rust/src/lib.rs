@@ -119,7 +119,8 @@ pub fn parameter_set(number: usize) -> Result<Parameters, Refusal> {
     judged(answer.code, 0, Parameters { k: answer.k, q: answer.q })
 }
 
-/// Converts a shared bit to n shares modulo q, with the first [`bit_words`] words. Answers their number.
+/// Converts a shared bit to n shares modulo q, with the first [`bit_words`] words. Answers their number. With words drawn evenly, each apart
+/// from all others and used once, no n - 1 of the shares tell anything of the bit.
 ///
 /// Refuses, in this order: `ShareCount`; `Modulus`, for q below 3; `XCount`; `XWidth`, for a share that is not 0 or 1, with its position;
 /// `WordCount`; `WordRange`, with the word's position; `OutputRoom`, for fewer than n output words. Words and output words past those are
@@ -128,8 +129,9 @@ pub fn convert_bit(n: usize, q: u16, bits: &[u16], words: &[u16], out: &mut [u16
     counted(unsafe { ffi::tp_convert_bit(n, q, bits.as_ptr(), bits.len(), words.as_ptr(), words.len(), out.as_mut_ptr(), out.len()) })
 }
 
-/// Samples: n shares modulo q of the weight of x less the weight of y, with the first [`sample_words`] words. Answers their number. The first
-/// [`sample_work`] words of the work area are 0 afterwards.
+/// Samples: n shares modulo q of the weight of x less the weight of y, with the first [`sample_words`] words. Answers their number. With
+/// words drawn evenly, each apart from all others and used once, no n - 1 of the shares tell anything of x and y. The first [`sample_work`]
+/// words of the work area are 0 afterwards.
 ///
 /// Refuses, in this order: `ShareCount`; `StringLength`; `Modulus`, for q below 2k + 1; `XCount`; `YCount`; `XWidth` and `YWidth`, with the
 /// share's position; `WordCount`; `WordRange`, with the word's position; `OutputRoom`, for fewer than n output words; `WorkRoom`. Words, output
@@ -156,8 +158,8 @@ pub fn sample(n: usize, k: usize, q: u16, x: &[u16], y: &[u16], words: &[u16], o
 }
 
 /// Writes the text of a lesson file, as the lesson program prints it, in front of the text buffer. Answers its length in bytes. What is wrong
-/// with the file is said in the text. The words of each sample whose records are whole fill the word buffer from the front; words past them
-/// keep their content.
+/// with the file is said in the text. The words of each sample whose records are whole, also of one that is then refused, fill the word
+/// buffer from the front; words past them keep their content.
 ///
 /// Refuses, in this order: `WordCount`, for a word buffer of fewer than [`MAX_WORDS`] words; `OutputRoom`, for a text buffer of fewer than
 /// [`text_room`] bytes. Text bytes past the text keep their content.

@@ -18,7 +18,7 @@ pub const MAX_WORDS: usize = 1_792;
 /// The most bytes of a lesson file.
 pub const MAX_FILE: usize = 60_000;
 
-/// The random words that [`convert_bit`](crate::convert_bit) takes: n(n - 1). At the end of the number range this and the next two stay there.
+/// The random words that [`convert_bit`](crate::convert_bit) takes: n(n - 1). This and the next two saturate.
 pub const fn bit_words(n: usize) -> usize {
     n.saturating_mul(n.saturating_sub(1))
 }
