@@ -1,12 +1,12 @@
-.PHONY: help lesson exam lib install uninstall bench test clean
+.PHONY: help lesson exam lib install uninstall bench test clean always
 .NOTPARALLEL:
+.DELETE_ON_ERROR:
+unexport CDPATH
 
-PREFIX = /usr/local
-DESTDIR =
-version = $(shell cat VERSION)
 library = build/lib/libtinplateau.a
 header = build/include/tinplateau.h
-to = $(DESTDIR)$(PREFIX)
+PREFIX ?= /usr/local
+export PREFIX DESTDIR
 
 help:
 	@echo 'make lesson     the main job on an example: proves the lesson program and gives it a lesson file'
@@ -28,23 +28,27 @@ exam:
 
 lib: $(library) $(header)
 
-$(library): crates.txt $(shell find crates -name '*.rt' -o -name '*.antt')
+# Made anew where a file changes, comes or goes (which changes its folder), or the toolchain does.
+$(library): build/toolchain crates.txt $(shell find crates -name '*.rt' -o -name '*.antt' -o -type d)
 	@tools/prove staticlib capi
 	@mkdir -p $(@D)
 	@cp target/staticlib/libcapi.a $@
+
+build/toolchain: always
+	@mkdir -p $(@D)
+	@if command -v rt >/dev/null; then rt version | cmp -s - $@ || rt version >$@; fi
+
+always:
 
 $(header): include/tinplateau.h
 	@mkdir -p $(@D)
 	@cp $< $@
 
 install: lib
-	@mkdir -p '$(to)/include' '$(to)/lib/pkgconfig'
-	cp $(header) '$(to)/include/tinplateau.h'
-	cp $(library) '$(to)/lib/libtinplateau.a'
-	sed 's|@prefix@|$(PREFIX)|; s|@version@|$(version)|' tinplateau.pc.in >'$(to)/lib/pkgconfig/tinplateau.pc'
+	@tools/install
 
 uninstall:
-	rm -f '$(to)/include/tinplateau.h' '$(to)/lib/libtinplateau.a' '$(to)/lib/pkgconfig/tinplateau.pc'
+	@tools/install -r
 
 bench: lib
 	@bench/run

@@ -1,7 +1,7 @@
 /* Tinplateau: masked binomial sampling. What each function answers is proved about its code (docs/CONTRACTS.md).
  *
- * Every call answers a code: 0 where it is accepted, else the number of the first check that failed (enum tp_code; docs/LESSONS.md says what
- * to do about each). With it goes the position of what is unfit, counted from 0, where a position is named below, and else 0. A refused call
+ * Every call answers a code: 0 where it is accepted, else the number of the first check that failed (enum tp_code; the project's docs/LESSONS.md
+ * says what to do about each). With it goes the position of what is unfit, counted from 0, where a position is named below, and else 0. A refused call
  * changes nothing.
  *
  * A list is a pointer and its number of elements; with 0 elements the pointer is not used. The caller sees to it that each list is there,
@@ -19,7 +19,8 @@
 #define TINPLATEAU_VERSION_MAJOR 1
 #define TINPLATEAU_VERSION_MINOR 0
 
-/* Has the compiler warn where an answer is dropped. Defined as nothing before this file is included, it is off. */
+/* Has the compiler warn where an answer is dropped; gcc does so in C in spite of a cast to void. Defined as nothing (-DTP_NODISCARD=) it is
+ * off. */
 #ifndef TP_NODISCARD
 #if defined(__cplusplus) && __cplusplus >= 201703L || defined(__STDC_VERSION__) && __STDC_VERSION__ >= 202311L
 #define TP_NODISCARD [[nodiscard]]
@@ -42,11 +43,17 @@ extern "C" {
 #define TP_MAX_WORDS 1792
 #define TP_MAX_FILE 60000
 
-/* The random words of a converted bit, and of a sample; the words of a sample's work area; the bytes of a lesson's text buffer. */
-#define TP_BIT_WORDS(n) ((size_t)(n) * ((size_t)(n) - 1))
-#define TP_SAMPLE_WORDS(n, k) (2 * (size_t)(k) * TP_BIT_WORDS(n))
-#define TP_SAMPLE_WORK(n, k) (2 * (size_t)(k) * (size_t)(n))
-#define TP_TEXT_ROOM(file_len) ((size_t)(file_len) > TP_MAX_FILE ? (size_t)45 : 3 * (size_t)(file_len) + 45)
+/* The random words of a converted bit, and of a sample; the words of a sample's work area; the bytes of a lesson's text buffer. They are of
+ * type size_t, and not for #if. */
+#ifdef __cplusplus
+#define TP_SIZE(number) static_cast<size_t>(number)
+#else
+#define TP_SIZE(number) ((size_t)(number))
+#endif
+#define TP_BIT_WORDS(n) (TP_SIZE(n) * (TP_SIZE(n) - 1))
+#define TP_SAMPLE_WORDS(n, k) (2 * TP_SIZE(k) * TP_BIT_WORDS(n))
+#define TP_SAMPLE_WORK(n, k) (2 * TP_SIZE(k) * TP_SIZE(n))
+#define TP_TEXT_ROOM(file_len) (TP_SIZE(file_len) > TP_MAX_FILE ? TP_SIZE(45) : 3 * TP_SIZE(file_len) + 45)
 
 /* Why a call is refused. TP_MARK to TP_FILE_LENGTH are about lesson files, and stand in a lesson's text only. */
 enum tp_code {
@@ -76,48 +83,48 @@ enum tp_code {
 };
 
 /* Code 0: accepted, and the value is a count. Else a number of enum tp_code, and the value is the position. */
-typedef struct {
+typedef struct tp_answer {
     uint32_t code;
     size_t value;
 } tp_answer;
 
 /* An opened string: its k bits, bit 0 the lowest. */
-typedef struct {
+typedef struct tp_string {
     uint16_t bits;
 } tp_string;
 
 /* An opened residue: a number below q. */
-typedef struct {
+typedef struct tp_residue {
     uint16_t value;
 } tp_residue;
 
 /* Where the code is not 0, what was opened is 0. Where it is 0, the position is. So in the answers below. */
-typedef struct {
+typedef struct tp_opened_string {
     uint32_t code;
     size_t position;
     tp_string opened;
 } tp_opened_string;
 
-typedef struct {
+typedef struct tp_opened_residue {
     uint32_t code;
     size_t position;
     tp_residue opened;
 } tp_opened_residue;
 
-typedef struct {
+typedef struct tp_signed {
     uint32_t code;
     size_t position;
     int32_t value;
 } tp_signed;
 
 /* Where the code is not 0, k and q are 0. Its one refusal has position 0. */
-typedef struct {
+typedef struct tp_parameters {
     uint32_t code;
     size_t k;
     uint16_t q;
 } tp_parameters;
 
-/* The layout that the archive has. A compiler that lays a struct out in another way is refused here. */
+/* The layout that the archive has. From C11 and C++11 on, a compiler that lays a struct out in another way is refused here. */
 #if defined(__cplusplus) && __cplusplus >= 201103L
 #define TP_HOLDS(fact) static_assert(fact, #fact)
 #elif defined(__STDC_VERSION__) && __STDC_VERSION__ >= 201112L

@@ -13,18 +13,11 @@ fn fail(text: &str) -> ! {
 
 /// The folder that the caller names, which must have the library.
 fn named() -> Option<PathBuf> {
-    let folder = PathBuf::from(env::var_os("TINPLATEAU_LIB_DIR")?);
-    if !folder.join(NAME).is_file() {
-        fail(&format!("TINPLATEAU_LIB_DIR is {}, where there is no {NAME}: set it to the folder that has it", folder.display()));
+    let folder = env::var_os("TINPLATEAU_LIB_DIR").filter(|folder| !folder.is_empty()).map(PathBuf::from)?;
+    if !folder.is_absolute() || !folder.join(NAME).is_file() {
+        fail(&format!("TINPLATEAU_LIB_DIR is {}: set it to the absolute path of the folder that has {NAME}", folder.display()));
     }
     Some(folder)
-}
-
-/// Where the library is installed.
-fn installed() -> Option<PathBuf> {
-    let output = Command::new("pkg-config").args(["--variable=libdir", "tinplateau"]).output().ok()?;
-    let folder = PathBuf::from(String::from_utf8(output.stdout).ok()?.trim());
-    Some(folder).filter(|folder| output.status.success() && folder.join(NAME).is_file())
 }
 
 /// Where the repository builds it.
@@ -34,12 +27,25 @@ fn built() -> Option<PathBuf> {
     Some(folder).filter(|folder| folder.join(NAME).is_file())
 }
 
+/// Where a library that has these calls is installed.
+fn installed() -> Option<PathBuf> {
+    let command = env::var_os("PKG_CONFIG").unwrap_or_else(|| "pkg-config".into());
+    let library = format!("tinplateau >= {}.{}", env!("CARGO_PKG_VERSION_MAJOR"), env!("CARGO_PKG_VERSION_MINOR"));
+    let output = Command::new(command).args(["--variable=libdir", &library]).output().ok()?;
+    let folder = PathBuf::from(String::from_utf8(output.stdout).ok()?.trim());
+    Some(folder).filter(|folder| output.status.success() && folder.join(NAME).is_file())
+}
+
 fn main() {
-    for variable in ["TINPLATEAU_LIB_DIR", "PKG_CONFIG_PATH", "PKG_CONFIG_LIBDIR"] {
+    let target = ["CARGO_CFG_TARGET_ARCH", "CARGO_CFG_TARGET_OS"].map(|variable| env::var(variable).unwrap_or_default());
+    if target != ["x86_64", "linux"] {
+        fail(&format!("the library is for x86_64 linux, and not for {} {}", target[0], target[1]));
+    }
+    for variable in ["TINPLATEAU_LIB_DIR", "PKG_CONFIG", "PKG_CONFIG_PATH", "PKG_CONFIG_LIBDIR"] {
         println!("cargo:rerun-if-env-changed={variable}");
     }
     println!("cargo:rerun-if-changed=build.rs");
-    let folder = named().or_else(installed).or_else(built);
+    let folder = named().or_else(built).or_else(installed);
     let folder =
         folder.unwrap_or_else(|| fail("there is no libtinplateau.a: install it, run `make lib` in its repository or set TINPLATEAU_LIB_DIR"));
     println!("cargo:rerun-if-changed={}", folder.join(NAME).display());

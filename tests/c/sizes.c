@@ -44,6 +44,7 @@ static void limits(void)
 {
     size_t work = TP_SAMPLE_WORK(TP_MAX_SHARES, TP_MAX_BITS);
     CHECK(TP_SAMPLE_WORDS(TP_MAX_SHARES, TP_MAX_BITS) == TP_MAX_WORDS);
+    CHECK(TP_BIT_WORDS(1 + 2) == 6 && TP_SAMPLE_WORDS(1 + 1, 1 + 2) == 12 && TP_SAMPLE_WORK(1 + 1, 1 + 2) == 12 && TP_TEXT_ROOM(1 + 1) == 51);
     sample_zeros(TP_MIN_SHARES - 1, 1, TP_MAX_WORDS, work, (tp_answer){TP_SHARE_COUNT, 0});
     sample_zeros(TP_MAX_SHARES + 1, 1, TP_MAX_WORDS, work, (tp_answer){TP_SHARE_COUNT, 0});
     sample_zeros(2, TP_MIN_BITS - 1, TP_MAX_WORDS, work, (tp_answer){TP_STRING_LENGTH, 0});
