@@ -3,3 +3,4 @@ pub mod Laws
 pub mod Positions
 pub mod PositionLaws
 pub mod Rows
+pub mod Blocks

@@ -1,5 +1,5 @@
 -- Lists that are written value after value from the front, or row after row.
-use mathlib.Core.Path.{_≡_, sym, ap, _∙_}
+use mathlib.Core.Path.{_≡_, refl, sym, ap, ap₂, _∙_}
 use mathlib.Core.List.{List, _++_, append-assoc, append-nil}
 use Prim.Native.Nat.{ℕ, zero, suc, suc-le-suc, _+_, _*_, _≤_, _<_}
 use native.Mathlib.Nat as N
@@ -12,8 +12,8 @@ use Rattle.residue.specs.Residue.{EachBelow}
 use Rattle.residue.specs.Sum.{each-below-append}
 use Rattle.buffers.specs.Overwrite.{overwrite}
 use Rattle.buffers.specs.Laws.{length-overwrite, overwrite-none, overwrite-append, front-snoc}
-use Rattle.buffers.specs.Positions.{at, table, rows, Below}
-use Rattle.buffers.specs.PositionLaws.{length-table, table-at, table-below, table-last}
+use Rattle.buffers.specs.Positions.{at, table, rows, Same, Below}
+use Rattle.buffers.specs.PositionLaws.{length-table, table-at, table-below, table-same, table-last}
 
 -- ---- value after value
 
@@ -54,6 +54,11 @@ rows-at (suc k) n f (suc t) i h l =
     let m = length-table n (f zero) in
     let e : suc t * n + i ≡ length (table n (f zero)) + (t * n + i) = omega arith in
     rw e (getD-append-add (table n (f zero)) (rows k n (λ t. f (suc t))) (t * n + i) 0 ∙ rows-at k n (λ t. f (suc t)) t i (le-of-suc-le-suc h) l)
+
+pub rows-same : (k n : ℕ) (f g : ℕ → ℕ → ℕ) → ((t : ℕ) → t < k → Same n (f t) (g t)) → rows k n f ≡ rows k n g
+unfolding rows
+rows-same zero n f g h = refl
+rows-same (suc k) n f g h = ap₂ _++_ (table-same n (f zero) (g zero) (h zero (omega arith))) (rows-same k n (λ t. f (suc t)) (λ t. g (suc t)) (λ t l. h (suc t) (suc-le-suc l)))
 
 pub rows-below : (q k n : ℕ) (f : ℕ → ℕ → ℕ) → ((t : ℕ) → t < k → Below q n (f t)) → EachBelow q (rows k n f)
 unfolding rows

@@ -1,6 +1,6 @@
 -- The checks (document 01: 'Questions put to a call'), and the verdict of a list of them. A call's checks are a list in the order of the page.
 use mathlib.Core.Bool.{Bool, true, false, cond, _&&_}
-use mathlib.Core.List.{List, [], _∷_}
+use mathlib.Core.List.{List, [], _∷_, _++_}
 use mathlib.Core.Option.{Option, none, some}
 use Prim.Native.Nat.{ℕ, _+_, _*_, _^_}
 use lib.Dec.{leb, ltb, eqb}
@@ -87,6 +87,18 @@ below code position limit x = record { holds = ltb x limit; code = code; positio
 abbrev pub parameterChecks : ℕ → ℕ → ℕ → List Check
 parameterChecks n k q = shareCount n ∷ stringLength k ∷ modulusAtLeast (2 * k + 1) q ∷ []
 
+-- 4 to 7: x and y are lists of `count` shares of k bits
+abbrev pub shareChecks : ℕ → ℕ → List ℕ → List ℕ → List Check
+shareChecks count k x y = exactly 4 count x ∷ exactly 5 count y ∷ narrow 6 k x ∷ narrow 7 k y ∷ []
+
 -- 8 and 9: there are at least `count` words, and the first `count` of them are below q
 abbrev pub wordChecks : ℕ → ℕ → List ℕ → List Check
 wordChecks count q words = atLeast 8 count (length words) ∷ allBelow 9 q (take count words) ∷ []
+
+-- 10 and 11: room in the output for so many shares, and in the work area for so many words
+abbrev pub roomChecks : ℕ → ℕ → ℕ → ℕ → List Check
+roomChecks shares room rows area = atLeast 10 shares room ∷ atLeast 11 rows area ∷ []
+
+-- 8 to 11
+abbrev pub bufferChecks : ℕ → ℕ → List ℕ → ℕ → ℕ → ℕ → ℕ → List Check
+bufferChecks count q words shares room rows area = wordChecks count q words ++ roomChecks shares room rows area

@@ -164,14 +164,18 @@ pub passes-part : {A : Type 0} (a : A) (cs ds : List Check) → Hold cs → verd
 passes-part a [] ds h = refl
 passes-part a (c ∷ cs) ds h = pass a c (cs ++ ds) (h .0) ∙ passes-part a cs ds (h .1)
 
+-- what the second parts decide alike, the whole lists do
+pub same-behind : {A : Type 0} (a : A) (cs ds es : List Check) → verdict ds a ≡ verdict es a → verdict (cs ++ ds) a ≡ verdict (cs ++ es) a
+same-behind a [] ds es e = e
+same-behind a (c ∷ cs) ds es e = go (same-behind a cs ds es e) (c .holds) refl
+  where
+    go : verdict (cs ++ ds) a ≡ verdict (cs ++ es) a → (t : Bool) → c .holds ≡ t → verdict (c ∷ (cs ++ ds)) a ≡ verdict (c ∷ (cs ++ es)) a
+    go ih true h = pass a c (cs ++ ds) h ∙ ih ∙ sym (pass a c (cs ++ es) h)
+    go ih false h = fail a c (cs ++ ds) h ∙ sym (fail a c (cs ++ es) h)
+
 -- where the second holds, the first decides
 pub passes-behind : {A : Type 0} (a : A) (cs ds : List Check) → Hold ds → verdict (cs ++ ds) a ≡ verdict cs a
-passes-behind a [] ds h = accepts a ds h ∙ sym (pass-all a)
-passes-behind a (c ∷ cs) ds h = go (passes-behind a cs ds h) (c .holds) refl
-  where
-    go : verdict (cs ++ ds) a ≡ verdict cs a → (t : Bool) → c .holds ≡ t → verdict (c ∷ (cs ++ ds)) a ≡ verdict (c ∷ cs) a
-    go ih true e = pass a c (cs ++ ds) e ∙ ih ∙ sym (pass a c cs e)
-    go ih false e = fail a c (cs ++ ds) e ∙ sym (fail a c cs e)
+passes-behind a cs ds h = same-behind a cs ds [] (accepts a ds h ∙ sym (pass-all a)) ∙ ap (λ (es : List Check). verdict es a) (append-nil cs)
 
 -- a refusal does not depend on what the call would answer, nor on the checks behind
 pub refuses : {A B : Type 0} (a : A) (b : B) (code position : ℕ) (cs ds : List Check) → verdict cs a ≡ refused code position → verdict (cs ++ ds) b ≡ refused code position

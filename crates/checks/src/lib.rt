@@ -5,7 +5,7 @@ ghost use Prim.Native.Nat.{_*_, _^_, _≤_};
 ghost use lib.Dec.{ltb};
 ghost use lib.ListN.{length, take};
 ghost use Rattle.checks.specs.Search.{firstNotBelow};
-ghost use Rattle.checks.specs.Checks.{refused, checked, within, parameterChecks, wordChecks};
+ghost use Rattle.checks.specs.Checks.{refused, checked, within, parameterChecks, shareChecks, wordChecks, bufferChecks};
 ghost use Rattle.checks.specs.Answers.{foundReading, checkedReading};
 
 // Document 01's number for a refused call, and the position (its 'place') of what is unfit.
@@ -98,6 +98,9 @@ pub const FILE_LENGTH: u32 = 21;
 // No published parameter set has this number.
 pub const SET_NUMBER: u32 = 22;
 
+// m, the number of coefficients, is not from 1 to 256.
+pub const COEFFICIENT_COUNT: u32 = 23;
+
 pub fn refuse(code: u32, position: usize) -> Checked
     ensures { λ r. ⌜ checkedReading r ≡ refused code position ⌝ }
 {
@@ -150,6 +153,25 @@ pub fn first_wide(shares: &[u16], k: usize) -> Found
     Found::Nothing
 }
 
+// Checks 4 to 7: x and y are lists of `count` shares of k bits.
+pub fn check_shares(count: usize, k: usize, x: &[u16], y: &[u16]) -> Checked
+    ensures { λ r. ⌜ checkedReading r ≡ checked (shareChecks count k (now (x .entry)) (now (y .entry))) ⌝ }
+{
+    if x.len() != count {
+        return refuse(X_COUNT, 0);
+    }
+    if y.len() != count {
+        return refuse(Y_COUNT, 0);
+    }
+    if let Found::At(i) = first_wide(x, k) {
+        return refuse(X_WIDTH, i);
+    }
+    if let Found::At(i) = first_wide(y, k) {
+        return refuse(Y_WIDTH, i);
+    }
+    Checked::Passed
+}
+
 // The first of the words that is not below q, going over the bits and, within a bit, over its words.
 pub fn first_not_below(words: &[Word], bits: usize, per: usize, q: Word) -> Found
     requires { ⌜ bits * per ≤ length (now words) ⌝ }
@@ -178,6 +200,32 @@ pub fn check_words(words: &[Word], bits: u32, per: u32, q: Word) -> Checked
     }
     if let Found::At(i) = first_not_below(words, bits as usize, per as usize, q) {
         return refuse(WORD_RANGE, i);
+    }
+    Checked::Passed
+}
+
+// Checks 8 to 11: the words of a call that takes `per` for each of its bits, room in the output for `shares` words, and in the work area
+// for `rows`.
+pub fn check_buffers(
+    words: &[Word],
+    bits: u32,
+    per: u32,
+    q: Word,
+    shares: usize,
+    room: usize,
+    rows: usize,
+    area: usize,
+) -> Checked
+    ensures { λ r. ⌜ checkedReading r ≡ checked (bufferChecks (bits * per) q (now (words .entry)) shares room rows area) ⌝ }
+{
+    if let Checked::Failed(r) = check_words(words, bits, per, q) {
+        return Checked::Failed(r);
+    }
+    if room < shares {
+        return refuse(OUTPUT_ROOM, 0);
+    }
+    if area < rows {
+        return refuse(WORK_ROOM, 0);
     }
     Checked::Passed
 }

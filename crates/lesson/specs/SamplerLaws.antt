@@ -6,9 +6,9 @@ use native.Mathlib.Omega.{arith}
 use borrow.Author.Tests.{le-leb, eq-eqb}
 use lib.ListN.{length}
 use Rattle.buffers.specs.Overwrite.{overwrite}
-use Rattle.checks.specs.Checks.{Check, accepted, refused, verdict, settled, parameterChecks, exactly}
+use Rattle.checks.specs.Checks.{Check, accepted, refused, verdict, settled, parameterChecks, exactly, roomChecks}
 use Rattle.checks.specs.Laws.{Hold, pass, accepted-holds, accepted-answer, passes-part, passes-behind, settled-done, settled-refused, settled-accepted, within-true}
-use Rattle.sampler.specs.Sampler.{sampleWords, workLength, roomChecks, sampleChecks, both, sampled}
+use Rattle.sampler.specs.Sampler.{sampleWords, workLength, sampleChecks, both, sampled}
 use Rattle.sampler.specs.Accepted.{small}
 use Rattle.checks.specs.declared.Refusal.{Refusal}
 use Rattle.checks.specs.declared.Answer.{Answer}
@@ -33,7 +33,7 @@ module _ (file : List ℕ) (l : Layout) (w : WholeSample file l) (b : SampleBuff
   abbrev checks : List Check
   checks = sampleChecks (s .n) (s .k) (s .q) (s .x) (s .y) (s .words) (length (b .out)) (length (b .work))
 
-  room : Hold (roomChecks (s .n) (s .k) (length (b .out)) (length (b .work)))
+  room : Hold (roomChecks (s .n) (length (b .out)) (workLength (s .n) (s .k)) (length (b .work)))
   unfolding sampleOf
   room =
       let eight = within-true 2 8 (s .n) (w .parameters .0) .1 in
@@ -46,7 +46,7 @@ module _ (file : List ℕ) (l : Layout) (w : WholeSample file l) (b : SampleBuff
       passes-part taken (parameterChecks (s .n) (s .k) (s .q)) _ (w .parameters)
       ∙ pass taken (exactly 4 (s .n) (s .x)) _ (eq-eqb _ _ (length-words file _ _))
       ∙ pass taken (exactly 5 (s .n) (s .y)) _ (eq-eqb _ _ (length-words file _ _))
-      ∙ passes-behind taken (otherChecks s) (roomChecks (s .n) (s .k) (length (b .out)) (length (b .work))) room
+      ∙ passes-behind taken (otherChecks s) (roomChecks (s .n) (length (b .out)) (workLength (s .n) (s .k)) (length (b .work))) room
 
   -- what the code learns from the sampler's answer
   module _ (words out work : List ℕ) (m : words ≡ overwrite (b .words) 0 (s .words)) (a : Answer) (e : outcome a (both out work) ≡ sampled (s .n) (s .k) (s .q) (s .x) (s .y) (s .words) (b .out) (b .work)) where

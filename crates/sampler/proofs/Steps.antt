@@ -24,10 +24,6 @@ use Rattle.sampler.specs.Columns.{columnShare}
 
 -- ---- the rows of one string
 
--- row t of k lies before the end
-pub row-fits : {t k : ℕ} (m : ℕ) → t < k → t * m + m ≤ k * m
-row-fits {t} {k} m h = N.le-trans (N.le-of-eq (sym (N.suc-mul t m))) (N.mul-le-mul-right m h)
-
 -- a row made from an array with the shares in front
 pub row-done : (q n t : ℕ) (x array : List ℕ) → 2 < q → Same n (at array) (at x) → (start p : ℕ) (words : List ℕ) → p ≡ start + t * bitWords n
     → table n (convertBit q n (bitsAt (at array) t) (after p (at words))) ≡ table n (row q n (at x) (after start (at words)) t)

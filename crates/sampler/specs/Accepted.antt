@@ -7,11 +7,11 @@ use native.Mathlib.Omega.{arith}
 use borrow.Author.Tests.{leb-true, le-leb, eqb-true}
 use lib.ListN.{length}
 use Rattle.residue.specs.Residue.{EachBelow}
-use Rattle.checks.specs.Checks.{wordChecks}
+use Rattle.checks.specs.Checks.{Check, wordChecks, roomChecks, bufferChecks}
 use Rattle.checks.specs.Laws.{Hold, hold-front, hold-rest, hold-both, within-true, none-each-below}
 use Rattle.conversion.specs.Conversion.{bitWords}
 use Rattle.conversion.specs.Arrays.{Drawn, words-drawn, drawn-words}
-use Rattle.sampler.specs.Sampler.{sampleWords, workLength, pairChecks, roomChecks, bufferChecks, sampleChecks}
+use Rattle.sampler.specs.Sampler.{sampleWords, workLength, pairChecks, sampleChecks}
 use Rattle.sampler.specs.Secrecy.{Room}
 
 -- the numbers that the code computes are small
@@ -43,6 +43,22 @@ pub record SharedPair (n k q : ℕ) (x y : List ℕ) : Type 0 where
 pub pair-large : {n k q : ℕ} {x y : List ℕ} → SharedPair n k q x y → 2 < q
 pair-large P = omega (arith, P .one, P .modulus)
 
+-- words and room, of a call that asks for `count` words and for room for so many shares and zeros
+module _ (count q : ℕ) (words : List ℕ) (shares zeros : ℕ) (out work : List ℕ) where
+  abbrev Fit : Type 0
+  Fit = Hold (bufferChecks count q words shares (length out) zeros (length work))
+
+  pub fit-drawn : Fit → Drawn q 0 count words
+  fit-drawn h = words-drawn q count words (hold-front (wordChecks count q words) (roomChecks shares (length out) zeros (length work)) h)
+
+  pub fit-room : Fit → Room shares zeros out work
+  fit-room h = (leb-true _ _ (h .1 .1 .0), leb-true _ _ (h .1 .1 .1 .0))
+
+  pub drawn-fit : Drawn q 0 count words → Room shares zeros out work → Fit
+  drawn-fit d r =
+      hold-both (wordChecks count q words) (roomChecks shares (length out) zeros (length work)) (drawn-words q count words d)
+      (le-leb _ _ (r .0), (le-leb _ _ (r .1), tt))
+
 module _ (n k q : ℕ) (x y : List ℕ) where
   pub shared-pair : Hold (pairChecks n k q x y) → SharedPair n k q x y
   shared-pair h =
@@ -62,21 +78,21 @@ module _ (n k q : ℕ) (x y : List ℕ) where
     abbrev Passes : Type 0
     Passes = Hold (sampleChecks n k q x y words (length out) (length work))
 
-    pub call-pair : Passes → SharedPair n k q x y
-    call-pair h = shared-pair (hold-front (pairChecks n k q x y) (bufferChecks n k q words (length out) (length work)) h)
+    abbrev buffers : List Check
+    buffers = bufferChecks (sampleWords n k) q words n (length out) (workLength n k) (length work)
 
-    buffers : Passes → Hold (bufferChecks n k q words (length out) (length work))
-    buffers h = hold-rest (pairChecks n k q x y) (bufferChecks n k q words (length out) (length work)) h
+    pub call-checks : Passes → Hold (pairChecks n k q x y)
+    call-checks h = hold-front (pairChecks n k q x y) buffers h
+
+    pub call-pair : Passes → SharedPair n k q x y
+    call-pair h = shared-pair (call-checks h)
 
     pub call-drawn : Passes → Drawn q 0 (sampleWords n k) words
-    call-drawn h = words-drawn q (sampleWords n k) words (hold-front (wordChecks (sampleWords n k) q words) (roomChecks n k (length out) (length work)) (buffers h))
+    call-drawn h = fit-drawn (sampleWords n k) q words n (workLength n k) out work (hold-rest (pairChecks n k q x y) buffers h)
 
-    pub call-room : Passes → Room n k out work
-    call-room h = (leb-true _ _ (buffers h .1 .1 .0), leb-true _ _ (buffers h .1 .1 .1 .0))
+    pub call-room : Passes → Room n (workLength n k) out work
+    call-room h = fit-room (sampleWords n k) q words n (workLength n k) out work (hold-rest (pairChecks n k q x y) buffers h)
 
     -- with enough words below q, and room, a pair of shared strings is accepted
-    pub call-holds : Hold (pairChecks n k q x y) → Drawn q 0 (sampleWords n k) words → Room n k out work → Passes
-    call-holds h d r =
-        hold-both (pairChecks n k q x y) (bufferChecks n k q words (length out) (length work)) h
-        (hold-both (wordChecks (sampleWords n k) q words) (roomChecks n k (length out) (length work)) (drawn-words q (sampleWords n k) words d)
-        (le-leb _ _ (r .0), (le-leb _ _ (r .1), tt)))
+    pub call-holds : Hold (pairChecks n k q x y) → Drawn q 0 (sampleWords n k) words → Room n (workLength n k) out work → Passes
+    call-holds h d r = hold-both (pairChecks n k q x y) buffers h (drawn-fit (sampleWords n k) q words n (workLength n k) out work d r)

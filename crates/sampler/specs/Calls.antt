@@ -3,23 +3,23 @@ use mathlib.Core.Path.{_≡_, refl, sym, ap, ap₂, _∙_}
 use mathlib.Core.List.{List, _++_}
 use Prim.Native.Nat.{ℕ, _<_}
 use native.Mathlib.Omega.{arith}
-use lib.ListN.{length, take, drop, replicate, length-replicate}
+use lib.ListN.{length, take, drop, replicate}
 use lib.Seq.{getD-take, take-take}
 use Rattle.residue.specs.Residue.{reduce, reduceℤ, total, EachBelow}
 use Rattle.residue.specs.Integers.{reduceℤ-minus}
 use Rattle.residue.specs.Sum.{sum-cong, sum-list}
 use Rattle.buffers.specs.Overwrite.{overwrite}
-use Rattle.buffers.specs.Laws.{take-front, drop-front, front-below}
 use Rattle.buffers.specs.Positions.{at}
 use Rattle.buffers.specs.PositionLaws.{length-table, table-at, table-below, table-same}
-use Rattle.checks.specs.Checks.{Check, Outcome, Verdict, accepted, refused, verdict, checked, settled}
-use Rattle.checks.specs.Laws.{Hold, accepted-holds, settled-accepted, settled-answer, settled-keeps, settled-refuses, settled-same, words-front}
+use Rattle.checks.specs.Checks.{Check, Outcome, Verdict, accepted, refused, verdict, checked, roomChecks, bufferChecks}
+use Rattle.checks.specs.Laws.{Hold, accepted-holds, settled-refuses, words-front}
 use Rattle.masking.specs.Sharing.{xorAll}
 use Rattle.masking.specs.Signed.{weight, differenceOfWeights}
-use Rattle.sampler.specs.Sampler.{Buffers, both, sampleShare, sampleShares, sampleWords, workLength, pairChecks, roomChecks, bufferChecks, sampleChecks, buffersAfter, sampled}
-use Rattle.sampler.specs.Secrecy.{Samples}
+use Rattle.sampler.specs.Sampler.{Buffers, both, sampleShare, sampleShares, sampleWords, workLength, pairChecks, sampleChecks, sampled}
+use Rattle.sampler.specs.Secrecy.{SharesOf, Samples}
 use Rattle.sampler.specs.Laws.{share-lt, share-local, share-sum}
 use Rattle.sampler.specs.Accepted.{SharedPair, small, shared-pair, pair-large, call-pair}
+use Rattle.sampler.specs.Written.{written-answer, written-out-kept, written-work-kept, written-accepted, written-shares, written-zeros, written-same}
 
 pub length-shares : (n k q : ℕ) (x y words : List ℕ) → length (sampleShares n k q x y words) ≡ n
 unfolding sampleShares
@@ -46,6 +46,10 @@ module _ {n k q : ℕ} {x y : List ℕ} (P : SharedPair n k q x y) (words : List
       ∙ share-sum q n (pair-large P) k (P .sixteen) x y (at words) (P .x-count) (P .y-count) (P .x-narrow) (P .y-narrow)
       ∙ sym (reduceℤ-minus q z (weight (xorAll x)) (weight (xorAll y)))
 
+  -- so they are shares of the two strings
+  pub shares-of : {shares : List ℕ} → shares ≡ sampleShares n k q x y words → SharesOf n k q x y words shares
+  shares-of e = record { steps = e; residue = ap (λ (l : List ℕ). reduce q (total l)) e ∙ shares-residue }
+
   -- words behind the first W do not matter
   pub shares-words : (words′ : List ℕ) → take (sampleWords n k) words ≡ take (sampleWords n k) words′ → sampleShares n k q x y words ≡ sampleShares n k q x y words′
   unfolding sampleShares
@@ -56,60 +60,46 @@ module _ {n k q : ℕ} {x y : List ℕ} (P : SharedPair n k q x y) (words : List
 
 module _ (n k q : ℕ) (x y words out work : List ℕ) (h : Hold (sampleChecks n k q x y words (length out) (length work))) where
   -- is accepted with W; its shares stand in front of the output, and zeros in front of the work area
-  pub call-accepted : sampled n k q x y words out work ≡ record { answer = accepted (sampleWords n k); buffers = buffersAfter n k q x y words out work }
+  pub call-accepted : sampled n k q x y words out work ≡ record { answer = accepted (sampleWords n k); buffers = both (overwrite out 0 (sampleShares n k q x y words)) (overwrite work 0 (replicate (workLength n k) 0)) }
   unfolding sampled
-  call-accepted = settled-accepted (sampleWords n k) (sampleChecks n k q x y words (length out) (length work)) (both out work) (buffersAfter n k q x y words out work) h
+  call-accepted = written-accepted _ (sampleWords n k) (sampleShares n k q x y words) (workLength n k) out work h
 
   pub call-shares : take n (sampled n k q x y words out work .buffers .out) ≡ sampleShares n k q x y words
-  call-shares =
-      ap (λ (o : Outcome ℕ Buffers). take n (o .buffers .out)) call-accepted
-      ∙ take-front out (sampleShares n k q x y words) n (length-shares n k q x y words)
-
-  pub call-share : (i : ℕ) → i < n → at (sampled n k q x y words out work .buffers .out) i ≡ sampleShare q n k (at x) (at y) (at words) i
-  call-share i l =
-      ap (λ (o : Outcome ℕ Buffers). at (o .buffers .out) i) call-accepted
-      ∙ front-below out (sampleShares n k q x y words) i (omega (arith, length-shares n k q x y words)) ∙ shares-at n k q x y words i l
+  unfolding sampled
+  call-shares = written-shares _ (sampleWords n k) (sampleShares n k q x y words) (workLength n k) out work h n (length-shares n k q x y words)
 
   pub call-zeroed : take (workLength n k) (sampled n k q x y words out work .buffers .work) ≡ replicate (workLength n k) 0
-  call-zeroed =
-      ap (λ (o : Outcome ℕ Buffers). take (workLength n k) (o .buffers .work)) call-accepted
-      ∙ take-front work (replicate (workLength n k) 0) (workLength n k) (length-replicate (workLength n k) 0)
+  unfolding sampled
+  call-zeroed = written-zeros _ (sampleWords n k) (sampleShares n k q x y words) (workLength n k) out work h
 
   pub call-samples : Samples n k q x y words (sampled n k q x y words out work)
   call-samples =
       record {
         count = ap (λ (o : Outcome ℕ Buffers). o .answer) call-accepted;
-        shares = call-shares;
-        residue = ap (λ (l : List ℕ). reduce q (total l)) call-shares ∙ shares-residue (call-pair n k q x y words out work h) words;
+        shares = shares-of (call-pair n k q x y words out work h) words call-shares;
       }
 
 -- ---- every call, accepted or refused
 
 module _ (n k q : ℕ) (x y words out work : List ℕ) where
-  abbrev decided : ℕ → ℕ → Verdict ℕ
-  decided room area = verdict (sampleChecks n k q x y words room area) (sampleWords n k)
-
   -- output positions past n keep their content
   pub out-kept : drop n (sampled n k q x y words out work .buffers .out) ≡ drop n out
   unfolding sampled
-  out-kept =
-      settled-keeps (decided (length out) (length work)) (both out work) (buffersAfter n k q x y words out work) (λ b. drop n (b .out))
-      (drop-front out (sampleShares n k q x y words) n (length-shares n k q x y words))
+  out-kept = written-out-kept _ (sampleWords n k) (sampleShares n k q x y words) (workLength n k) out work n (length-shares n k q x y words)
 
   -- and work positions past 2kn theirs
   pub work-kept : drop (workLength n k) (sampled n k q x y words out work .buffers .work) ≡ drop (workLength n k) work
   unfolding sampled
-  work-kept =
-      settled-keeps (decided (length out) (length work)) (both out work) (buffersAfter n k q x y words out work) (λ b. drop (workLength n k) (b .work))
-      (drop-front work (replicate (workLength n k) 0) (workLength n k) (length-replicate (workLength n k) 0))
+  work-kept = written-work-kept _ (sampleWords n k) (sampleShares n k q x y words) (workLength n k) out work
 
   -- the outcome does not depend on words behind the first W
   pub words-behind : (words′ : List ℕ) → take (sampleWords n k) words ≡ take (sampleWords n k) words′ → sampled n k q x y words out work ≡ sampled n k q x y words′ out work
   unfolding sampled
   words-behind words′ e =
-      settled-same (decided (length out) (length work)) (both out work) (buffersAfter n k q x y words out work) (buffersAfter n k q x y words′ out work)
-      (λ a p. ap (λ (s : List ℕ). both (overwrite out 0 s) (overwrite work 0 (replicate (workLength n k) 0))) (shares-words (call-pair n k q x y words out work (accepted-holds _ a _ p)) words words′ e))
-      ∙ ap (λ (cs : List Check). settled (verdict (pairChecks n k q x y ++ (cs ++ roomChecks n k (length out) (length work))) (sampleWords n k)) (both out work) (buffersAfter n k q x y words′ out work)) (words-front (sampleWords n k) q words words′ e)
+      written-same (sampleChecks n k q x y words (length out) (length work)) (sampleWords n k) (sampleShares n k q x y words) (workLength n k) out work
+      (sampleChecks n k q x y words′ (length out) (length work)) (sampleWords n k) (sampleShares n k q x y words′)
+      (λ h. shares-words (call-pair n k q x y words out work h) words words′ e)
+      (ap (λ (cs : List Check). verdict (pairChecks n k q x y ++ (cs ++ roomChecks n (length out) (workLength n k) (length work))) (sampleWords n k)) (words-front (sampleWords n k) q words words′ e))
 
   -- nor on words behind the first 1,792, whatever n and k are
   pub words-most : (words′ : List ℕ) → take 1792 words ≡ take 1792 words′ → sampled n k q x y words out work ≡ sampled n k q x y words′ out work
@@ -124,13 +114,16 @@ module _ (n k q : ℕ) (x y words out work : List ℕ) where
       go (refused code position) e = refuses-with words ∙ sym (refuses-with words′)
         where
           refuses-with : (ws : List ℕ) → sampled n k q x y ws out work ≡ record { answer = refused code position; buffers = both out work }
-          refuses-with ws = settled-refuses (sampleWords n k) (pairChecks n k q x y) (bufferChecks n k q ws (length out) (length work)) (both out work) (buffersAfter n k q x y ws out work) code position e
+          refuses-with ws = settled-refuses (sampleWords n k) (pairChecks n k q x y) (bufferChecks (sampleWords n k) q ws n (length out) (workLength n k) (length work)) (both out work) _ code position e
 
   module _ (out′ work′ : List ℕ) where
     -- the answer depends on the lengths of output and work area, not on what they held
     pub answer-before : length out ≡ length out′ → length work ≡ length work′ → sampled n k q x y words out work .answer ≡ sampled n k q x y words out′ work′ .answer
     unfolding sampled
-    answer-before e d = settled-answer (decided (length out) (length work)) (both out work) (buffersAfter n k q x y words out work) ∙ ap₂ decided e d ∙ sym (settled-answer (decided (length out′) (length work′)) (both out′ work′) (buffersAfter n k q x y words out′ work′))
+    answer-before e d =
+        written-answer _ (sampleWords n k) (sampleShares n k q x y words) (workLength n k) out work
+        ∙ ap₂ (λ (room area : ℕ). verdict (sampleChecks n k q x y words room area) (sampleWords n k)) e d
+        ∙ sym (written-answer _ (sampleWords n k) (sampleShares n k q x y words) (workLength n k) out′ work′)
 
     -- nor do the shares
     pub shares-before : Hold (sampleChecks n k q x y words (length out) (length work)) → Hold (sampleChecks n k q x y words (length out′) (length work′))

@@ -3,6 +3,7 @@ pub mod Secrecy
 pub mod Columns
 pub mod Laws
 pub mod Accepted
+pub mod Written
 pub mod Calls
 pub mod Opened
 pub mod Translation

@@ -5,20 +5,19 @@ use Prim.Native.Nat.{ℕ, _^_, _≤_, _<_}
 use lib.IntN.{natAbs}
 use lib.ListN.{length, take}
 use borrow.Author.Tests.{le-leb, lt-ltb, eq-eqb}
-use Rattle.residue.specs.Residue.{reduce, reduceℤ, total}
+use Rattle.residue.specs.Residue.{reduce, reduceℤ, total, EachBelow}
 use Rattle.residue.specs.Integers.{minus-le}
 use Rattle.checks.specs.Checks.{accepted, isNone}
-use Rattle.checks.specs.Laws.{Hold, hold-front, accepts, each-below-none}
+use Rattle.checks.specs.Laws.{Hold, accepts, each-below-none}
 use Rattle.masking.specs.Sharing.{xorAll, openResidueChecks, openedResidue, openStringChecks, openedString}
 use Rattle.masking.specs.Signed.{weight, differenceOfWeights, centredValue, centred, weightChecks, weightDifference}
 use Rattle.masking.specs.Weight.{weight-le}
 use Rattle.masking.specs.Xor.{xorAll-lt}
 use Rattle.masking.specs.Centring.{centred-value, centred-sample}
-use Rattle.sampler.specs.Sampler.{sampleShares, pairChecks, bufferChecks, sampleChecks, sampled}
-use Rattle.sampler.specs.Accepted.{SharedPair, pair-large, call-pair}
-use Rattle.sampler.specs.Calls.{length-shares, shares-below, shares-residue, call-shares}
-
--- ---- of strings that pass their checks
+use Rattle.sampler.specs.Sampler.{sampleShares, pairChecks, sampleChecks, sampled}
+use Rattle.sampler.specs.Secrecy.{SharesOf}
+use Rattle.sampler.specs.Accepted.{SharedPair, pair-large, shared-pair, call-checks}
+use Rattle.sampler.specs.Calls.{length-shares, shares-below, shares-residue, call-samples}
 
 module _ {n k q : ℕ} {x y : List ℕ} (P : SharedPair n k q x y) where
   x-lt : xorAll x < 2 ^ k
@@ -35,39 +34,40 @@ module _ {n k q : ℕ} {x y : List ℕ} (P : SharedPair n k q x y) where
   pub shares-centred : (words : List ℕ) → centredValue q (reduce q (total (sampleShares n k q x y words))) ≡ differenceOfWeights (xorAll x) (xorAll y)
   shares-centred words = ap (centredValue q) (shares-residue P words) ∙ centred-value k q (P .modulus) (differenceOfWeights (xorAll x) (xorAll y)) sample-le
 
--- ---- of a call that passes its checks
-
-module _ (n k q : ℕ) (x y words out work : List ℕ) (h : Hold (sampleChecks n k q x y words (length out) (length work))) where
+module _ (n k q : ℕ) (x y : List ℕ) (h : Hold (pairChecks n k q x y)) where
   pair : SharedPair n k q x y
-  pair = call-pair n k q x y words out work h
-
-  pairs-hold : Hold (pairChecks n k q x y)
-  pairs-hold = hold-front (pairChecks n k q x y) (bufferChecks n k q words (length out) (length work)) h
+  pair = shared-pair n k q x y h
 
   -- the two strings open
   pub x-opened : openedString n k x ≡ accepted (xorAll x)
   unfolding openedString
-  x-opened = accepts (xorAll x) (openStringChecks n k x) (pairs-hold .0, (pairs-hold .1 .0, (pairs-hold .1 .1 .1 .0, (pairs-hold .1 .1 .1 .1 .1 .0, tt))))
+  x-opened = accepts (xorAll x) (openStringChecks n k x) (h .0, (h .1 .0, (h .1 .1 .1 .0, (h .1 .1 .1 .1 .1 .0, tt))))
 
   pub y-opened : openedString n k y ≡ accepted (xorAll y)
   unfolding openedString
-  y-opened = accepts (xorAll y) (openStringChecks n k y) (pairs-hold .0, (pairs-hold .1 .0, (pairs-hold .1 .1 .1 .1 .0, (pairs-hold .1 .1 .1 .1 .1 .1 .0, tt))))
+  y-opened = accepts (xorAll y) (openStringChecks n k y) (h .0, (h .1 .0, (h .1 .1 .1 .1 .0, (h .1 .1 .1 .1 .1 .1 .0, tt))))
 
   -- their plain weight difference
   pub plain-difference : weightDifference k (xorAll x) (xorAll y) ≡ accepted (differenceOfWeights (xorAll x) (xorAll y))
   unfolding weightDifference
-  plain-difference = accepts _ (weightChecks k (xorAll x) (xorAll y)) (pairs-hold .1 .0, (lt-ltb _ _ (x-lt pair), (lt-ltb _ _ (y-lt pair), tt)))
+  plain-difference = accepts _ (weightChecks k (xorAll x) (xorAll y)) (h .1 .0, (lt-ltb _ _ (x-lt pair), (lt-ltb _ _ (y-lt pair), tt)))
 
-  -- the shares open to its residue
-  pub shares-opened : openedResidue n q (take n (sampled n k q x y words out work .buffers .out)) ≡ accepted (reduceℤ q (differenceOfWeights (xorAll x) (xorAll y)))
+  -- their shares open to its residue
+  pub shares-opened : {words shares : List ℕ} → SharesOf n k q x y words shares → openedResidue n q shares ≡ accepted (reduceℤ q (differenceOfWeights (xorAll x) (xorAll y)))
   unfolding openedResidue
-  shares-opened =
-      rw (call-shares n k q x y words out work h)
-      (accepts _ (openResidueChecks n q (sampleShares n k q x y words)) (pairs-hold .0, (le-leb 3 q (pair-large pair), (eq-eqb _ _ (length-shares n k q x y words), (ap isNone (each-below-none q (sampleShares n k q x y words) 0 (shares-below pair words)), tt))))
-      ∙ ap accepted (shares-residue pair words))
+  shares-opened {words} {shares} s =
+      let e : length shares ≡ n = ap length (s .steps) ∙ length-shares n k q x y words in
+      let b : EachBelow q shares = rw (s .steps) (shares-below pair words) in
+      accepts _ (openResidueChecks n q shares) (h .0, (le-leb 3 q (pair-large pair), (eq-eqb _ _ e, (ap isNone (each-below-none q shares 0 b), tt))))
+      ∙ ap accepted (s .residue)
 
   -- which, centred, is the difference
   pub residue-centred : centred q (reduceℤ q (differenceOfWeights (xorAll x) (xorAll y))) ≡ weightDifference k (xorAll x) (xorAll y)
   residue-centred =
       centred-sample k q (pair .modulus) (pair .one) (differenceOfWeights (xorAll x) (xorAll y)) (sample-le pair)
       ∙ sym plain-difference
+
+-- the shares that an accepted call leaves
+pub call-opened : (n k q : ℕ) (x y words out work : List ℕ) → Hold (sampleChecks n k q x y words (length out) (length work))
+    → openedResidue n q (take n (sampled n k q x y words out work .buffers .out)) ≡ accepted (reduceℤ q (differenceOfWeights (xorAll x) (xorAll y)))
+call-opened n k q x y words out work h = shares-opened n k q x y (call-checks n k q x y words out work h) (call-samples n k q x y words out work h .shares)

@@ -1,12 +1,12 @@
 -- The masked binomial sampler (document 01: 'The sample', 'Questions put to a call'; source 003, Algorithm 10).
 -- Shares and words are functions of the position. Shares are counted from 0 here, from 1 on the page.
-use mathlib.Core.List.{List, [], _∷_, _++_}
+use mathlib.Core.List.{List, _++_}
 use Prim.Native.Nat.{ℕ, _*_}
 use lib.ListN.{length, replicate}
 use Rattle.residue.specs.Residue.{sub, sum}
 use Rattle.buffers.specs.Overwrite.{overwrite}
 use Rattle.buffers.specs.Positions.{at, table, after}
-use Rattle.checks.specs.Checks.{Check, Outcome, verdict, settled, parameterChecks, exactly, narrow, atLeast, wordChecks}
+use Rattle.checks.specs.Checks.{Check, Outcome, verdict, settled, parameterChecks, shareChecks, bufferChecks}
 use Rattle.conversion.specs.Conversion.{convertBit, bitsAt, bitWords}
 
 -- ---- the sample
@@ -39,18 +39,10 @@ workLength n k = 2 * k * n
 
 -- The checks of the two shared strings, 1 to 7: what passes them is the page's 'accepted pair'.
 abbrev pub pairChecks : ℕ → ℕ → ℕ → List ℕ → List ℕ → List Check
-pairChecks n k q x y = parameterChecks n k q ++ (exactly 4 n x ∷ exactly 5 n y ∷ narrow 6 k x ∷ narrow 7 k y ∷ [])
-
--- of the output and the work area: 10 and 11
-abbrev pub roomChecks : ℕ → ℕ → ℕ → ℕ → List Check
-roomChecks n k room area = atLeast 10 n room ∷ atLeast 11 (workLength n k) area ∷ []
-
--- of the word list, the output and the work area: 8 to 11
-abbrev pub bufferChecks : ℕ → ℕ → ℕ → List ℕ → ℕ → ℕ → List Check
-bufferChecks n k q words room area = wordChecks (sampleWords n k) q words ++ roomChecks n k room area
+pairChecks n k q x y = parameterChecks n k q ++ shareChecks n k x y
 
 abbrev pub sampleChecks : ℕ → ℕ → ℕ → List ℕ → List ℕ → List ℕ → ℕ → ℕ → List Check
-sampleChecks n k q x y words room area = pairChecks n k q x y ++ bufferChecks n k q words room area
+sampleChecks n k q x y words room area = pairChecks n k q x y ++ bufferChecks (sampleWords n k) q words n room (workLength n k) area
 
 -- output and work area
 pub record Buffers : Type 0 where
@@ -60,11 +52,11 @@ pub record Buffers : Type 0 where
 abbrev pub both : List ℕ → List ℕ → Buffers
 both out work = record { out = out; work = work }
 
--- the shares in front of the output, zeros in front of the work area, and the rest as it was
-abbrev pub buffersAfter : ℕ → ℕ → ℕ → List ℕ → List ℕ → List ℕ → List ℕ → List ℕ → Buffers
-buffersAfter n k q x y words out work = both (overwrite out 0 (sampleShares n k q x y words)) (overwrite work 0 (replicate (workLength n k) 0))
+-- A call that passes its checks answers the count of its words, and leaves the shares in front of the output, zeros in front of the work
+-- area, and the rest as it was.
+abbrev pub sharesWritten : List Check → ℕ → List ℕ → ℕ → List ℕ → List ℕ → Outcome ℕ Buffers
+sharesWritten checks count shares zeros out work = settled (verdict checks count) (both out work) (both (overwrite out 0 shares) (overwrite work 0 (replicate zeros 0)))
 
--- an accepted call answers W
 unfoldable pub sampled : ℕ → ℕ → ℕ → List ℕ → List ℕ → List ℕ → List ℕ → List ℕ → Outcome ℕ Buffers
 sampled n k q x y words out work =
-    settled (verdict (sampleChecks n k q x y words (length out) (length work)) (sampleWords n k)) (both out work) (buffersAfter n k q x y words out work)
+    sharesWritten (sampleChecks n k q x y words (length out) (length work)) (sampleWords n k) (sampleShares n k q x y words) (workLength n k) out work

@@ -11,12 +11,15 @@ use Rattle.masking.specs.Signed.{differenceOfWeights}
 use Rattle.secrecy.specs.Secrecy.{Full, Indistinguishable, AgreeBut}
 use Rattle.sampler.specs.Sampler.{Buffers, sampleWords, sampleShares, workLength, pairChecks, sampled}
 
--- The outcome of an accepted call: W as the count; the n shares are those of the written steps; their residue is the weight of the call's
--- own x less the weight of its own y, modulo q.
+-- The n shares are those of the written steps; their residue is the weight of x less the weight of y, modulo q.
+pub record SharesOf (n k q : ℕ) (x y words shares : List ℕ) : Type 0 where
+  pub steps : shares ≡ sampleShares n k q x y words
+  pub residue : reduce q (total shares) ≡ reduceℤ q (differenceOfWeights (xorAll x) (xorAll y))
+
+-- The outcome of an accepted call: W as the count, and shares of the call's own x and y.
 pub record Samples (n k q : ℕ) (x y words : List ℕ) (o : Outcome ℕ Buffers) : Type 0 where
   pub count : o .answer ≡ accepted (sampleWords n k)
-  pub shares : take n (o .buffers .out) ≡ sampleShares n k q x y words
-  pub residue : reduce q (total (take n (o .buffers .out))) ≡ reduceℤ q (differenceOfWeights (xorAll x) (xorAll y))
+  pub shares : SharesOf n k q x y words (take n (o .buffers .out))
 
 -- Two such outcomes that agree in every share but ℓ.
 pub record AlikeBut (ℓ n k q : ℕ) (x y words : List ℕ) (o : Outcome ℕ Buffers) (x′ y′ words′ : List ℕ) (o′ : Outcome ℕ Buffers) : Type 0 where
@@ -24,14 +27,14 @@ pub record AlikeBut (ℓ n k q : ℕ) (x y words : List ℕ) (o : Outcome ℕ Bu
   pub other : Samples n k q x′ y′ words′ o′
   pub agree : AgreeBut ℓ n (o .buffers .out) (o′ .buffers .out)
 
--- room for the shares and for the rows, whatever stands there
+-- room for the shares and for the zeros, whatever stands there
 abbrev pub Room : ℕ → ℕ → List ℕ → List ℕ → Type 0
-Room n k out work = (n ≤ length out) × (workLength n k ≤ length work)
+Room shares zeros out work = (shares ≤ length out) × (zeros ≤ length work)
 
 -- For every share ℓ left out and any two pairs of shared strings that pass the checks 1 to 7: a one-to-one map of the full lists of words
 -- makes the two calls alike in all other shares, whatever stood in their buffers before.
 unfoldable pub Secrecy : ℕ → ℕ → ℕ → Type 0
 Secrecy n k q =
     (ℓ : ℕ) → ℓ < n → (x y x′ y′ : List ℕ) → checked (pairChecks n k q x y) ≡ accepted tt → checked (pairChecks n k q x′ y′) ≡ accepted tt
-    → Indistinguishable (Full q (sampleWords n k)) (λ words words′. (out work out′ work′ : List ℕ) → Room n k out work → Room n k out′ work′
+    → Indistinguishable (Full q (sampleWords n k)) (λ words words′. (out work out′ work′ : List ℕ) → Room n (workLength n k) out work → Room n (workLength n k) out′ work′
     → AlikeBut ℓ n k q x y words (sampled n k q x y words out work) x′ y′ words′ (sampled n k q x′ y′ words′ out′ work′))

@@ -2,7 +2,6 @@
 // No branch, index, comparison, division or remainder depends on a share, a bit or a random word behind the checks.
 use checks::Answer;
 use checks::Checked;
-use checks::Found;
 use residue::Wide;
 use residue::Word;
 ghost use mathlib.Core.Path.{_≡_};
@@ -77,7 +76,7 @@ fn write_shares(work: &[Word], n: usize, k: usize, q: Word, out: &mut [Word])
 }
 
 // The sample. The rows stand in the work area until they are summed, and are then overwritten by zeros.
-fn write_sample(
+pub fn write_sample(
     n: usize,
     k: usize,
     q: Word,
@@ -103,19 +102,7 @@ fn check_pair(n: usize, k: usize, q: Word, x: &[u16], y: &[u16]) -> Checked
     if let Checked::Failed(r) = checks::check_parameters(n, k, q) {
         return Checked::Failed(r);
     }
-    if x.len() != n {
-        return checks::refuse(checks::X_COUNT, 0);
-    }
-    if y.len() != n {
-        return checks::refuse(checks::Y_COUNT, 0);
-    }
-    if let Found::At(i) = checks::first_wide(x, k) {
-        return checks::refuse(checks::X_WIDTH, i);
-    }
-    if let Found::At(i) = checks::first_wide(y, k) {
-        return checks::refuse(checks::Y_WIDTH, i);
-    }
-    Checked::Passed
+    checks::check_shares(n, k, x, y)
 }
 
 fn check_sample(
@@ -135,16 +122,7 @@ fn check_sample(
     }
     let bits = (2 * k) as u32;
     let per = (n * (n - 1)) as u32;
-    if let Checked::Failed(r) = checks::check_words(words, bits, per, q) {
-        return Checked::Failed(r);
-    }
-    if room < n {
-        return checks::refuse(checks::OUTPUT_ROOM, 0);
-    }
-    if area < 2 * k * n {
-        return checks::refuse(checks::WORK_ROOM, 0);
-    }
-    Checked::Passed
+    checks::check_buffers(words, bits, per, q, n, room, 2 * k * n, area)
 }
 
 // Samples: n shares modulo q of the weight of x less the weight of y. Answers 2kn(n - 1), the number of words it takes from the front of the

@@ -12,13 +12,16 @@ use Rattle.sampler.specs.SecrecyProof.{secrecy}
 use Rattle.sampler.proofs.sample.Statement.{statement}
 use Rattle.sampler.proofs.sample.Tie as tie
 
-holds : (c : tie.After-enum-told) → Hold (sampleChecks (c .before .before .before .before .before .before .before .before .args .n) (c .before .before .before .before .before .before .before .before .args .k) (c .before .before .before .before .before .before .before .before .args .q) (c .before .before .before .before .before .before .before .before .args .x .now) (c .before .before .before .before .before .before .before .before .args .y .now) (c .before .before .before .before .before .before .before .before .args .words .now) (length (c .before .before .before .before .before .before .before .before .args .out .now)) (length (c .before .before .before .before .before .before .before .before .args .work .now)))
+abbrev start : tie.After-enum-told → tie.Start
+start c = c .before .before .before .before .before .before .before .before
+
+holds : (c : tie.After-enum-told) → let a = start c .args in Hold (sampleChecks (a .n) (a .k) (a .q) (a .x .now) (a .y .now) (a .words .now) (length (a .out .now)) (length (a .work .now)))
 holds c = checks-hold _ _ (c .before .before .check-sample .ensures) (c .enum-told .given .1)
 
-pair : (c : tie.After-enum-told) → SharedPair (c .before .before .before .before .before .before .before .before .args .n) (c .before .before .before .before .before .before .before .before .args .k) (c .before .before .before .before .before .before .before .before .args .q) (c .before .before .before .before .before .before .before .before .args .x .now) (c .before .before .before .before .before .before .before .before .args .y .now)
-pair c = call-pair _ _ _ _ _ _ (c .before .before .before .before .before .before .before .before .args .out .now) (c .before .before .before .before .before .before .before .before .args .work .now) (holds c)
+pair : (c : tie.After-enum-told) → let a = start c .args in SharedPair (a .n) (a .k) (a .q) (a .x .now) (a .y .now)
+pair c = let a = start c .args in call-pair _ _ _ _ _ _ (a .out .now) (a .work .now) (holds c)
 
-sizes : (c : tie.After-enum-told) → Small (c .before .before .before .before .before .before .before .before .args .n) (c .before .before .before .before .before .before .before .before .args .k)
+sizes : (c : tie.After-enum-told) → let a = start c .args in Small (a .n) (a .k)
 sizes c = small _ _ (pair c .eight) (pair c .sixteen)
 
 check-sample-requires : tie.Need-check-sample-requires
@@ -36,10 +39,11 @@ enum-told c = search needs
 
 write-sample-requires : tie.Need-write-sample-requires
 write-sample-requires c κs =
+    let s = start (c .before .before) .args in
     let h = holds (c .before .before) in
     let p = pair (c .before .before) in
-    let d = call-drawn _ _ _ _ _ _ (c .before .before .before .before .before .before .before .before .before .before .args .out .now) (c .before .before .before .before .before .before .before .before .before .before .args .work .now) h in
-    let r = call-room _ _ _ _ _ _ (c .before .before .before .before .before .before .before .before .before .before .args .out .now) (c .before .before .before .before .before .before .before .before .before .before .args .work .now) h in (
+    let d = call-drawn _ _ _ _ _ _ (s .out .now) (s .work .now) h in
+    let r = call-room _ _ _ _ _ _ (s .out .now) (s .work .now) h in (
       omega (arith, p .two),
       p .eight,
       p .sixteen,

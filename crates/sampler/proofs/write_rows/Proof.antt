@@ -8,10 +8,11 @@ use Rattle.buffers.specs.Overwrite.{overwrite}
 use Rattle.buffers.specs.Positions.{at, rows, after, Same}
 use Rattle.buffers.specs.PositionLaws.{front-same}
 use Rattle.buffers.specs.Rows.{rows-none, rows-next, rows-all, rows-length}
+use Rattle.buffers.specs.Blocks.{block-fits}
 use Rattle.conversion.specs.Arrays.{drawn-part}
 use Rattle.conversion.specs.Conversion.{bitWords}
 use Rattle.sampler.specs.Sampler.{row}
-use Rattle.sampler.proofs.Steps.{row-fits, row-done}
+use Rattle.sampler.proofs.Steps.{row-done}
 use Rattle.sampler.proofs.write_rows.Statement.{statement}
 use Rattle.sampler.proofs.write_rows.Tie as tie
 
@@ -29,10 +30,10 @@ gathered c =
 
 -- the next row has its words and its room
 next-words : (c : tie.In-loop Inv-loop μ-loop) → let s = c .before .before .before .before .before .before .before .before .args in s .start + (c .before .loop .bit * bitWords (length (s .shares .now)) + bitWords (length (s .shares .now))) ≤ length (s .words .now)
-next-words c = let s = c .before .before .before .before .before .before .before .before in omega (arith, row-fits (bitWords (length (s .args .shares .now))) (c .loop-test .taken), s .pre .4 .room)
+next-words c = let s = c .before .before .before .before .before .before .before .before in omega (arith, block-fits (bitWords (length (s .args .shares .now))) (c .loop-test .taken), s .pre .4 .room)
 
 next-row : (c : tie.In-loop Inv-loop μ-loop) → let s = c .before .before .before .before .before .before .before .before .args in s .to + (c .before .loop .bit * length (s .shares .now) + length (s .shares .now)) ≤ length (s .work .now)
-next-row c = let s = c .before .before .before .before .before .before .before .before in omega (arith, row-fits (length (s .args .shares .now)) (c .loop-test .taken), s .pre .5)
+next-row c = let s = c .before .before .before .before .before .before .before .before in omega (arith, block-fits (length (s .args .shares .now)) (c .loop-test .taken), s .pre .5)
 
 slice-aggregate-copy-eight : tie.Need-slice-aggregate-copy-eight Inv-loop μ-loop
 slice-aggregate-copy-eight c = search needs
@@ -71,7 +72,7 @@ convert-at-requires c κs =
       s .pre .1,
       omega arith,
       s .pre .3,
-      drawn-part _ (l .bit * w) _ refl (row-fits w (c .before .before .loop-test .taken)) (s .pre .4),
+      drawn-part _ (l .bit * w) _ refl (block-fits w (c .before .before .loop-test .taken)) (s .pre .4),
       omega (arith, rows-length _ _ _ _ _ _ (l .inv .1) (omega arith)),
     )
 

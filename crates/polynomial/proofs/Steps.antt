@@ -1,0 +1,85 @@
+-- Facts of the code's steps.
+use mathlib.Core.Path.{_≡_, refl, sym, ap, _∙_}
+use mathlib.Core.List.{List, _++_}
+use Prim.Native.Nat.{ℕ, zero, suc, _+_, _-_, _*_, _≤_, _<_}
+use native.Mathlib.Nat.{zero-add}
+use native.Mathlib.Numerals.{add-one}
+use native.Mathlib.Omega.{arith}
+use lib.ListN.{length, take, drop, replicate, length-replicate}
+use Rattle.buffers.specs.Overwrite.{overwrite}
+use Rattle.buffers.specs.Laws.{length-overwrite, overwrite-again}
+use Rattle.buffers.specs.Positions.{at, table}
+use Rattle.buffers.specs.PositionLaws.{table-list}
+use Rattle.buffers.specs.Rows.{rows-none, rows-next, rows-length}
+use Rattle.buffers.specs.Blocks.{block, length-block, block-at, part-block, put-block}
+use Rattle.conversion.specs.Arrays.{Drawn}
+use Rattle.sampler.specs.Sampler.{sampleShares, sampleWords}
+use Rattle.polynomial.specs.Polynomial.{coefficientShares, polynomialShares}
+use Rattle.polynomial.specs.Calls.{length-coefficient}
+
+-- ---- the work area
+
+-- after t samples: as before them, or with zeros in front
+unfoldable pub zeroed : ℕ → List ℕ → ℕ → List ℕ
+zeroed c work zero = work
+zeroed c work (suc t) = overwrite work 0 (replicate c 0)
+
+pub zeroed-none : (c : ℕ) (work : List ℕ) → work ≡ zeroed c work 0
+unfolding zeroed
+zeroed-none c work = refl
+
+pub zeroed-next : (c : ℕ) (before work after : List ℕ) (t : ℕ) → work ≡ zeroed c before t → after ≡ overwrite work 0 (replicate c 0) → after ≡ zeroed c before (t + 1)
+unfolding zeroed
+zeroed-next c before work after zero e d = d ∙ ap (λ (l : List ℕ). overwrite l 0 (replicate c 0)) e
+zeroed-next c before work after (suc t) e d = rw (add-one (suc t)) (d ∙ ap (λ (l : List ℕ). overwrite l 0 (replicate c 0)) e ∙ overwrite-again before (replicate c 0) (replicate c 0) refl)
+
+pub zeroed-length : (c : ℕ) (before work : List ℕ) (t : ℕ) → work ≡ zeroed c before t → c ≤ length before → length work ≡ length before
+unfolding zeroed
+zeroed-length c before work zero e h = ap length e
+zeroed-length c before work (suc t) e h = ap length e ∙ length-overwrite before 0 (replicate c 0) (omega (arith, length-replicate {A = ℕ} c 0))
+
+pub zeroed-all : (c : ℕ) (before work : List ℕ) (t : ℕ) → 0 < t → work ≡ zeroed c before t → work ≡ overwrite before 0 (replicate c 0)
+unfolding zeroed
+zeroed-all c before work zero h e = absurd (omega arith)
+zeroed-all c before work (suc t) h e = e
+
+-- ---- a coefficient
+
+module _ (n k q : ℕ) (x y words : List ℕ) (t : ℕ) where
+  -- its shares are a row
+  coefficient-row : coefficientShares n k q x y words t ≡ table n (at (coefficientShares n k q x y words t))
+  coefficient-row = sym (table-list n (coefficientShares n k q x y words t) (length-coefficient n k q x y words t))
+
+  -- one more behind the first t
+  pub coefficients-next : (before out after : List ℕ) → out ≡ overwrite before 0 (polynomialShares n k q t x y words) → after ≡ overwrite out (t * n) (coefficientShares n k q x y words t)
+      → after ≡ overwrite before 0 (polynomialShares n k q (t + 1) x y words)
+  unfolding polynomialShares
+  coefficients-next before out after e d =
+      d ∙ ap (λ (p : ℕ). overwrite out p (coefficientShares n k q x y words t)) (sym (zero-add (t * n))) ∙ rows-next before 0 n _ t out _ e coefficient-row
+
+  pub coefficients-length : (before out : List ℕ) → out ≡ overwrite before 0 (polynomialShares n k q t x y words) → t * n ≤ length before → length out ≡ length before
+  unfolding polynomialShares
+  coefficients-length before out e h = rows-length before 0 n _ t out e (omega arith)
+
+  abbrev part : ℕ → List ℕ → List ℕ
+  part c l = take (t * c + c - t * c) (drop (t * c) l)
+
+  -- the sample of the parts that are lent, put back
+  pub coefficient-put : (out after : List ℕ) → t * n + n ≤ length out → after ≡ overwrite (part n out) 0 (sampleShares n k q (part n x) (part n y) (part (sampleWords n k) words))
+      → take (t * n) out ++ (after ++ drop (t * n + n - t * n) (drop (t * n) out)) ≡ overwrite out (t * n) (coefficientShares n k q x y words t)
+  unfolding coefficientShares
+  coefficient-put out after h e =
+      rw (e, part-block n t x, part-block n t y, part-block (sampleWords n k) t words)
+      (put-block n t out (coefficientShares n k q x y words t) h (length-coefficient n k q x y words t))
+
+pub coefficients-none : (n k q : ℕ) (x y words out : List ℕ) → out ≡ overwrite out 0 (polynomialShares n k q 0 x y words)
+unfolding polynomialShares
+coefficients-none n k q x y words out = rows-none out 0 n _
+
+-- the words of a block
+pub block-drawn : (q c t : ℕ) (words : List ℕ) → Drawn q (t * c) c words → Drawn q 0 c (block c t words)
+block-drawn q c t words d =
+    record {
+      room = omega (arith, length-block c words t (d .room));
+      below = λ i l. rw (zero-add i, block-at c words t i l) (d .below i l);
+    }

@@ -1,0 +1,112 @@
+-- The checks' verdict; a refusal comes before anything is written, and behind the checks all is ready for the samples.
+use mathlib.Core.Path.{ap₂, _∙_}
+use native.Mathlib.Omega.{arith}
+use lib.ListN.{length}
+use borrow.Author.Needs.{needs}
+use Rattle.checks.specs.declared.Answer.the-variants.{Done}
+use Rattle.checks.specs.Answers.{outcome}
+use Rattle.checks.specs.Laws.{Hold, checks-hold, settles-accepted, settles-refused}
+use Rattle.sampler.specs.Sampler.{both}
+use Rattle.sampler.specs.Accepted.{Small, small, SharedPair, pair-large}
+use Rattle.polynomial.specs.Polynomial.{polynomialWords, polynomialChecks, sampledPolynomial}
+use Rattle.polynomial.specs.Accepted.{SmallPolynomial, small-polynomial, SharedStrings, first-pair, call-strings, call-drawn, call-room}
+use Rattle.polynomial.specs.SecrecyProof.{secrecy}
+use Rattle.polynomial.proofs.sample_polynomial.Statement.{statement}
+use Rattle.polynomial.proofs.sample_polynomial.Tie as tie
+
+abbrev start : tie.After-enum-told → tie.Start
+start c = c .before .before .before .before .before .before .before .before
+
+holds : (c : tie.After-enum-told) → let a = start c .args in Hold (polynomialChecks (a .n) (a .k) (a .q) (a .m) (a .x .now) (a .y .now) (a .words .now) (length (a .out .now)) (length (a .work .now)))
+holds c = checks-hold _ _ (c .before .before .check-polynomial .ensures) (c .enum-told .given .1)
+
+strings : (c : tie.After-enum-told) → let a = start c .args in SharedStrings (a .n) (a .k) (a .q) (a .m) (a .x .now) (a .y .now)
+strings c = let a = start c .args in call-strings _ _ _ _ _ _ _ (a .out .now) (a .work .now) (holds c)
+
+sizes : (c : tie.After-enum-told) → let a = start c .args in Small (a .n) (a .k)
+sizes c = let p = first-pair (strings c) in small _ _ (p .eight) (p .sixteen)
+
+all-sizes : (c : tie.After-enum-told) → let a = start c .args in SmallPolynomial (a .n) (a .k) (a .m)
+all-sizes c = let p = first-pair (strings c) in small-polynomial _ _ _ (p .eight) (p .sixteen) (strings c .most)
+
+check-polynomial-requires : tie.Need-check-polynomial-requires
+check-polynomial-requires c κs = search needs
+
+enum-known-r : tie.Need-enum-known-r
+enum-known-r c = search needs
+
+returns : tie.Need-returns
+unfolding sampledPolynomial
+returns c = (settles-refused _ _ (c .before .before .before .check-polynomial .ensures) _ _ _ _ (c .before .r .given .1), secrecy _ _ _ _)
+
+enum-told : tie.Need-enum-told
+enum-told c = search needs
+
+write-coefficients-requires : tie.Need-write-coefficients-requires
+write-coefficients-requires c κs =
+    let a = start (c .before .before) .args in
+    let h = holds (c .before .before) in
+    let S = strings (c .before .before) in
+    let p = first-pair S in
+    let r = call-room _ _ _ _ _ _ _ (a .out .now) (a .work .now) h in (
+      p .two,
+      p .eight,
+      p .sixteen,
+      record { large = pair-large p; small = omega arith },
+      S .some,
+      S .x-count,
+      S .y-count,
+      call-drawn _ _ _ _ _ _ _ (a .out .now) (a .work .now) h,
+      r .0,
+      r .1,
+    )
+
+mul-t12 : tie.Need-mul-t12
+mul-t12 c = omega (arith, sizes (c .before .before .before .before .before .before .before) .bits)
+
+sub-t13 : tie.Need-sub-t13
+sub-t13 c = omega (arith, first-pair (strings (c .before .before .before .before .before .before .before)) .two)
+
+mul-t19 : tie.Need-mul-t19
+mul-t19 c = omega (arith, sizes (c .before .before .before .before .before .before .before) .per)
+
+mul-t20 : tie.Need-mul-t20
+mul-t20 c = omega (arith, sizes (c .before .before .before .before .before .before .before) .words)
+
+mul-t21 : tie.Need-mul-t21
+mul-t21 c = omega (arith, all-sizes (c .before .before .before .before .before .before .before) .words)
+
+same-length : tie.Need-same-length
+same-length c = search needs
+
+same-length-2 : tie.Need-same-length-2
+same-length-2 c = search needs
+
+returns-2 : tie.Need-returns-2
+unfolding sampledPolynomial
+returns-2 c =
+    let d = c .before .before .before .before .before .before .before in
+    let a = start d .args in
+    let e = c .before .before .before .before .write-coefficients .ensures in
+    let count = polynomialWords (a .n) (a .k) (a .m) in (
+      ap₂ (λ o w. outcome (Done count) (both o w)) (e .0) (e .1) ∙ settles-accepted _ _ (d .before .before .check-polynomial .ensures) count (both (a .out .now) (a .work .now)) _ (d .enum-told .given .1),
+      secrecy _ _ _ _,
+    )
+
+pub sample-polynomial-spec : {M : Type 1} → statement M
+sample-polynomial-spec =
+    tie.close
+    (tie.spec
+    check-polynomial-requires
+    enum-known-r
+    returns
+    enum-told
+    write-coefficients-requires
+    mul-t12
+    sub-t13
+    mul-t19
+    mul-t20
+    mul-t21
+    same-length
+    same-length-2
+    returns-2)

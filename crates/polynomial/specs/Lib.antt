@@ -1,0 +1,6 @@
+pub mod Polynomial
+pub mod Secrecy
+pub mod Accepted
+pub mod Calls
+pub mod SecrecyProof
+pub mod OneCoefficient

@@ -1,0 +1,125 @@
+// Whole polynomials (document 02, A.1): m samples in one call, coefficient after coefficient.
+// No branch, index, comparison, division or remainder depends on a share, a bit or a random word behind the checks.
+use checks::Answer;
+use checks::Checked;
+use residue::Word;
+ghost use mathlib.Core.Path.{_≡_};
+ghost use Prim.Native.Nat.{_+_, _*_, _≤_};
+ghost use lib.ListN.{length, replicate};
+ghost use Rattle.buffers.specs.Overwrite.{overwrite};
+ghost use Rattle.checks.specs.Checks.{checked};
+ghost use Rattle.checks.specs.Answers.{checkedReading, outcome};
+ghost use Rattle.conversion.specs.Arrays.{Drawn, Modulus};
+ghost use Rattle.sampler.specs.Sampler.{sampleWords, workLength, both};
+ghost use Rattle.polynomial.specs.Polynomial.{coefficientShares, polynomialShares, polynomialWords, stringsChecks, polynomialChecks, sampledPolynomial};
+ghost use Rattle.polynomial.specs.Secrecy.{PolynomialSecrecy};
+
+// The sample of coefficient t, from the blocks t of x, y and the words to that of the output.
+fn write_coefficient(
+    n: usize,
+    k: usize,
+    q: Word,
+    t: usize,
+    x: &[u16],
+    y: &[u16],
+    words: &[Word],
+    out: &mut [Word],
+    work: &mut [Word],
+)
+    requires { ⌜ (2 ≤ n) × (n ≤ 8) × (k ≤ 16) × Modulus q × (t * n + n ≤ length (now x)) × (t * n + n ≤ length (now y)) × Drawn q (t * sampleWords n k) (sampleWords n k) (now words) × (t * n + n ≤ length (now out)) × (workLength n k ≤ length (now work)) ⌝ }
+    ensures { λ _. ⌜ (now (out .exit) ≡ overwrite (now (out .entry)) (t * n) (coefficientShares n k q (now (x .entry)) (now (y .entry)) (now (words .entry)) t)) × (now (work .exit) ≡ overwrite (now (work .entry)) 0 (replicate (workLength n k) 0)) ⌝ }
+{
+    let per = 2 * k * (n * (n - 1));
+    let i = t * n;
+    let j = i + n;
+    let w = t * per;
+    let v = w + per;
+    sampler::write_sample(
+        n,
+        k,
+        q,
+        &x[i..j],
+        &y[i..j],
+        &words[w..v],
+        &mut out[i..j],
+        work,
+    );
+}
+
+fn write_coefficients(
+    n: usize,
+    k: usize,
+    q: Word,
+    m: usize,
+    x: &[u16],
+    y: &[u16],
+    words: &[Word],
+    out: &mut [Word],
+    work: &mut [Word],
+)
+    requires { ⌜ (2 ≤ n) × (n ≤ 8) × (k ≤ 16) × Modulus q × (1 ≤ m) × (length (now x) ≡ m * n) × (length (now y) ≡ m * n) × Drawn q 0 (polynomialWords n k m) (now words) × (m * n ≤ length (now out)) × (workLength n k ≤ length (now work)) ⌝ }
+    ensures { λ _. ⌜ (now (out .exit) ≡ overwrite (now (out .entry)) 0 (polynomialShares n k q m (now (x .entry)) (now (y .entry)) (now (words .entry)))) × (now (work .exit) ≡ overwrite (now (work .entry)) 0 (replicate (workLength n k) 0)) ⌝ }
+{
+    for t in 0..m {
+        write_coefficient(n, k, q, t, x, y, words, out, work);
+    }
+}
+
+fn check_strings(n: usize, k: usize, q: Word, m: usize, x: &[u16], y: &[u16]) -> Checked
+    ensures { λ r. ⌜ checkedReading r ≡ checked (stringsChecks n k q m (now (x .entry)) (now (y .entry))) ⌝ }
+{
+    if let Checked::Failed(r) = checks::check_parameters(n, k, q) {
+        return Checked::Failed(r);
+    }
+    if !checks::within(1, 256, m) {
+        return checks::refuse(checks::COEFFICIENT_COUNT, 0);
+    }
+    checks::check_shares(m * n, k, x, y)
+}
+
+fn check_polynomial(
+    n: usize,
+    k: usize,
+    q: Word,
+    m: usize,
+    x: &[u16],
+    y: &[u16],
+    words: &[Word],
+    room: usize,
+    area: usize,
+) -> Checked
+    ensures { λ r. ⌜ checkedReading r ≡ checked (polynomialChecks n k q m (now (x .entry)) (now (y .entry)) (now (words .entry)) room area) ⌝ }
+{
+    if let Checked::Failed(r) = check_strings(n, k, q, m, x, y) {
+        return Checked::Failed(r);
+    }
+    let bits = (m * (2 * k)) as u32;
+    let per = (n * (n - 1)) as u32;
+    checks::check_buffers(words, bits, per, q, m * n, room, 2 * k * n, area)
+}
+
+// Samples m coefficients: n shares modulo q of each, of the weight of its x less the weight of its y. Every list holds coefficient after
+// coefficient. Answers m times 2kn(n - 1), the number of words it takes from the front of the list. Output positions past mn and work
+// positions past 2kn keep their content; the first 2kn work words are zero afterwards.
+// Refuses 1; 2; 3 (q below 2k + 1); 23; 4; 5; 6 and 7 with the share's position; 8; 9 with the word's position; 10; 11. Each check is put to
+// all coefficients before the next, and positions count from the start of the whole list.
+pub fn sample_polynomial(
+    n: usize,
+    k: usize,
+    q: Word,
+    m: usize,
+    x: &[u16],
+    y: &[u16],
+    words: &[Word],
+    out: &mut [Word],
+    work: &mut [Word],
+) -> Answer
+    ensures { λ r. ⌜ outcome r (both (now (out .exit)) (now (work .exit))) ≡ sampledPolynomial n k q m (now (x .entry)) (now (y .entry)) (now (words .entry)) (now (out .entry)) (now (work .entry)) ⌝ }
+    ensures secrecy { λ _. ⌜ PolynomialSecrecy n k q m ⌝ }
+{
+    if let Checked::Failed(r) = check_polynomial(n, k, q, m, x, y, words, out.len(), work.len()) {
+        return Answer::Refused(r);
+    }
+    write_coefficients(n, k, q, m, x, y, words, out, work);
+    Answer::Done(m * (2 * k * (n * (n - 1))))
+}
