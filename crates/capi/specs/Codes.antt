@@ -13,6 +13,7 @@ use Rattle.masking.specs.Signed.{centreChecks, centred, weightChecks, weightDif
 use Rattle.masking.specs.Sets.{setChecks, parameterSet}
 use Rattle.conversion.specs.Conversion.{bitChecks, converted}
 use Rattle.sampler.specs.Sampler.{sampleChecks, sampled}
+use Rattle.polynomial.specs.Polynomial.{polynomialChecks, sampledPolynomial}
 use Rattle.lesson.specs.Call.{callChecks, textWritten}
 use Rattle.capi.specs.LessonText.{lessonTextWritten}
 
@@ -54,6 +55,10 @@ module _ (code position : ℕ) where
   pub sample-code : (n k q : ℕ) (x y words out work : List ℕ) → sampled n k q x y words out work .answer ≡ refused code position → 0 < code
   unfolding sampled
   sample-code n k q x y words out work e = numbered _ (sampleChecks n k q x y words (length out) (length work)) refl (sym (settled-answer _ _ _) ∙ e)
+
+  pub sample-polynomial-code : (n k q m : ℕ) (x y words out work : List ℕ) → sampledPolynomial n k q m x y words out work .answer ≡ refused code position → 0 < code
+  unfolding sampledPolynomial
+  sample-polynomial-code n k q m x y words out work e = numbered _ (polynomialChecks n k q m x y words (length out) (length work)) refl (sym (settled-answer _ _ _) ∙ e)
 
   pub lesson-text-code : (file words text : List ℕ) → lessonTextWritten file words text .answer ≡ refused code position → 0 < code
   unfolding textWritten

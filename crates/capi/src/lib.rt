@@ -19,6 +19,8 @@ ghost use Rattle.conversion.specs.Conversion.{converted};
 ghost use Rattle.conversion.specs.Secrecy.{BitSecrecy};
 ghost use Rattle.sampler.specs.Sampler.{both, sampled};
 ghost use Rattle.sampler.specs.Secrecy.{Secrecy};
+ghost use Rattle.polynomial.specs.Polynomial.{sampledPolynomial};
+ghost use Rattle.polynomial.specs.Secrecy.{PolynomialSecrecy};
 ghost use Rattle.capi.specs.Structs.{answerOf, stringOf, residueOf, signedOf, parametersOf, returned, answered};
 ghost use Rattle.capi.specs.LessonText.{wordsAndText, lessonTextWritten};
 
@@ -221,6 +223,24 @@ pub extern "C" fn tp_sample(
 {
     let lent = words_lent(words);
     answer(sampler::sample(n, k, q, x, y, &words[..lent], out, work))
+}
+
+#[no_mangle]
+pub extern "C" fn tp_sample_polynomial(
+    n: usize,
+    k: usize,
+    q: Word,
+    m: usize,
+    x: &[u16],
+    y: &[u16],
+    words: &[Word],
+    out: &mut [Word],
+    work: &mut [Word],
+) -> TpAnswer
+    ensures { λ r. ⌜ returned r (both (now (out .exit)) (now (work .exit))) ≡ answered (sampledPolynomial n k q m (now (x .entry)) (now (y .entry)) (now (words .entry)) (now (out .entry)) (now (work .entry))) ⌝ }
+    ensures secrecy { λ _. ⌜ PolynomialSecrecy n k q m ⌝ }
+{
+    answer(polynomial::sample_polynomial(n, k, q, m, x, y, words, out, work))
 }
 
 // The output and the work area of the samples are the call's own.

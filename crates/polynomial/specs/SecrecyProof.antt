@@ -24,12 +24,12 @@ secrecy n k q m ℓ left-out x y x′ y′ a a′ =
     let P = first-pair (shared-strings n k q m x y h) in
     weaken
     (λ v w f g same out work out′ work′ r r′.
-        let c = call-holds n k q m x y v out work h (full-drawn f) r in
-        let c′ = call-holds n k q m x′ y′ w out′ work′ h′ (full-drawn g) r′ in
-        record {
-          one = call-polynomial n k q m x y v out work c;
-          other = call-polynomial n k q m x′ y′ w out′ work′ c′;
-          agree = λ t l. rw (call-coefficient n k q m x y v out work c t l, call-coefficient n k q m x′ y′ w out′ work′ c′ t l) (same t l);
-        })
+    let c = call-holds n k q m x y v out work h (full-drawn f) r in
+    let c′ = call-holds n k q m x′ y′ w out′ work′ h′ (full-drawn g) r′ in
+    record {
+      one = call-polynomial n k q m x y v out work c;
+      other = call-polynomial n k q m x′ y′ w out′ work′ c′;
+      agree = λ t l. rw (call-coefficient n k q m x y v out work c t l, call-coefficient n k q m x′ y′ w out′ work′ c′ t l) (same t l);
+    })
     (blocks q (sampleWords n k) m (λ t v w. AgreeBut (ℓ t) n (sampleShares n k q (block n t x) (block n t y) v) (sampleShares n k q (block n t x′) (block n t y′) w))
     (λ t l. shares-secrecy n k q (ℓ t) (pair-large P) (P .one) (left-out t l) (block n t x) (block n t y) (block n t x′) (block n t y′)))

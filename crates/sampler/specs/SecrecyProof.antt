@@ -53,11 +53,11 @@ secrecy n k q ℓ l x y x′ y′ a a′ =
     let P = shared-pair n k q x y h in
     weaken
     (λ v w f g same out work out′ work′ r r′.
-        let c = call-holds n k q x y v out work h (full-drawn f) r in
-        let c′ = call-holds n k q x′ y′ w out′ work′ h′ (full-drawn g) r′ in
-        record {
-          one = call-samples n k q x y v out work c;
-          other = call-samples n k q x′ y′ w out′ work′ c′;
-          agree = agree-front ℓ n _ _ (call-shares n k q x y v out work c) (call-shares n k q x′ y′ w out′ work′ c′) same;
-        })
+    let c = call-holds n k q x y v out work h (full-drawn f) r in
+    let c′ = call-holds n k q x′ y′ w out′ work′ h′ (full-drawn g) r′ in
+    record {
+      one = call-samples n k q x y v out work c;
+      other = call-samples n k q x′ y′ w out′ work′ c′;
+      agree = agree-front ℓ n _ _ (call-shares n k q x y v out work c) (call-shares n k q x′ y′ w out′ work′ c′) same;
+    })
     (shares-secrecy n k q ℓ (pair-large P) (P .one) l x y x′ y′)
