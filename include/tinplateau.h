@@ -7,8 +7,8 @@
  * A list is a pointer and its number of elements; with 0 elements the pointer is not used. The caller sees to it that each list is there,
  * and that one which is not const may be written and overlaps no other list of the call.
  *
- * n is the number of shares, 2 to 8; k the number of bits in a string, 1 to 16; q the modulus. A random word is below q, drawn evenly and
- * apart from all others, and used once. The library makes no random numbers. */
+ * n is the number of shares, 2 to 8; k the number of bits in a string, 1 to 16; q the modulus; m the number of a polynomial's coefficients, 1
+ * to 256. A random word is below q, drawn evenly and apart from all others, and used once. The library makes no random numbers. */
 #ifndef TINPLATEAU_H
 #define TINPLATEAU_H
 
@@ -17,7 +17,7 @@
 
 /* MINOR rises with a new call, MAJOR where a call or the meaning of an answer changes. */
 #define TINPLATEAU_VERSION_MAJOR 1
-#define TINPLATEAU_VERSION_MINOR 0
+#define TINPLATEAU_VERSION_MINOR 1
 
 /* Has the compiler warn where an answer is dropped; gcc does so in C in spite of a cast to void. Defined as nothing (-DTP_NODISCARD=) it is
  * off. */
@@ -35,16 +35,18 @@
 extern "C" {
 #endif
 
-/* The limits of n and k, of the words that one sample takes, and of a lesson file's bytes. */
+/* The limits of n, k and m, of the words that one sample takes, and of a lesson file's bytes. */
 #define TP_MIN_SHARES 2
 #define TP_MAX_SHARES 8
 #define TP_MIN_BITS 1
 #define TP_MAX_BITS 16
+#define TP_MIN_COEFFICIENTS 1
+#define TP_MAX_COEFFICIENTS 256
 #define TP_MAX_WORDS 1792
 #define TP_MAX_FILE 60000
 
-/* The random words of a converted bit, and of a sample; the words of a sample's work area; the bytes of a lesson's text buffer. They are of
- * type size_t, and not for #if. */
+/* The random words of a converted bit, and of a sample; the words of a sample's work area, which is a polynomial's too; the shares of a
+ * polynomial's x, y and output, each, and its random words; the bytes of a lesson's text buffer. They are of type size_t, and not for #if. */
 #ifdef __cplusplus
 #define TP_SIZE(number) static_cast<size_t>(number)
 #else
@@ -53,6 +55,8 @@ extern "C" {
 #define TP_BIT_WORDS(n) (TP_SIZE(n) * (TP_SIZE(n) - 1))
 #define TP_SAMPLE_WORDS(n, k) (2 * TP_SIZE(k) * TP_BIT_WORDS(n))
 #define TP_SAMPLE_WORK(n, k) (2 * TP_SIZE(k) * TP_SIZE(n))
+#define TP_POLYNOMIAL_SHARES(n, m) (TP_SIZE(m) * TP_SIZE(n))
+#define TP_POLYNOMIAL_WORDS(n, k, m) (TP_SIZE(m) * TP_SAMPLE_WORDS(n, k))
 #define TP_TEXT_ROOM(file_len) (TP_SIZE(file_len) > TP_MAX_FILE ? TP_SIZE(45) : 3 * TP_SIZE(file_len) + 45)
 
 /* Why a call is refused. TP_MARK to TP_FILE_LENGTH are about lesson files, and stand in a lesson's text only. */
@@ -61,8 +65,8 @@ enum tp_code {
     TP_SHARE_COUNT = 1,       /* n is not from 2 to 8 */
     TP_STRING_LENGTH = 2,     /* k is not from 1 to 16 */
     TP_MODULUS = 3,           /* q is too small */
-    TP_X_COUNT = 4,           /* not n Boolean shares, of x where there are two lists */
-    TP_Y_COUNT = 5,           /* not n shares of y */
+    TP_X_COUNT = 4,           /* not n Boolean shares (in a polynomial mn), of x where there are two lists */
+    TP_Y_COUNT = 5,           /* not n shares of y (in a polynomial mn) */
     TP_X_WIDTH = 6,           /* a Boolean share, of x where there are two lists, of more than k bits */
     TP_Y_WIDTH = 7,           /* a share of y of more than k bits */
     TP_WORD_COUNT = 8,        /* too few random words */
@@ -79,7 +83,8 @@ enum tp_code {
     TP_CUT_SHORT = 19,        /* the file ends within a record or a sample */
     TP_WORD_LIMIT = 20,       /* a count of random words above 1,792 */
     TP_FILE_LENGTH = 21,      /* a file of more than 60,000 bytes */
-    TP_SET_NUMBER = 22        /* no published parameter set has this number */
+    TP_SET_NUMBER = 22,       /* no published parameter set has this number */
+    TP_COEFFICIENT_COUNT = 23 /* m is not from 1 to 256 */
 };
 
 /* Code 0: accepted, and the value is a count. Else a number of enum tp_code, and the value is the position. */
@@ -206,6 +211,17 @@ tp_answer tp_convert_bit(size_t n, uint16_t q, const uint16_t *bits, size_t bits
 TP_NODISCARD
 tp_answer tp_sample(size_t n, size_t k, uint16_t q, const uint16_t *x, size_t x_len, const uint16_t *y, size_t y_len, const uint16_t *words,
                     size_t words_len, uint16_t *out, size_t out_len, uint16_t *work, size_t work_len);
+
+/* Samples a polynomial: m coefficients, each as tp_sample makes it. Lists hold coefficient after coefficient: coefficient t, from 0, has the n
+ * shares from position tn on in x, y and output, and takes the W = 2kn(n - 1) words from position tW on. Answers mW. With words drawn so, any
+ * n - 1 shares of each coefficient, all taken together, tell nothing of x and y. The first 2kn words of the work area are 0 afterwards.
+ * Refuses, with each check made for all coefficients before the next and positions from the start of the whole list: 1 (n); 2 (k); 3 (q below
+ * 2k + 1); 23 (m); 4 (not mn shares of x); 5 (of y); 6 (a share of x of more than k bits, with its position); 7 (of y); 8 (fewer than mW words);
+ * 9 (one of these not below q, with its position); 10 (fewer than mn output words); 11 (fewer than 2kn words in the work area). Words, output
+ * words and work words past those are neither read nor written. */
+TP_NODISCARD
+tp_answer tp_sample_polynomial(size_t n, size_t k, uint16_t q, size_t m, const uint16_t *x, size_t x_len, const uint16_t *y, size_t y_len,
+                               const uint16_t *words, size_t words_len, uint16_t *out, size_t out_len, uint16_t *work, size_t work_len);
 
 /* Writes the text of a lesson file, as the lesson program prints it, in front of the text buffer. Answers its length in bytes. What is
  * wrong with the file is said in the text. The words of each sample whose records are whole, also of one that is then refused, fill the word

@@ -156,6 +156,24 @@ extern "C" {
         work_len: usize,
     ) -> tp_answer;
 
+    /// Samples a polynomial: m coefficients, each a sample.
+    pub fn tp_sample_polynomial(
+        n: usize,
+        k: usize,
+        q: u16,
+        m: usize,
+        x: *const u16,
+        x_len: usize,
+        y: *const u16,
+        y_len: usize,
+        words: *const u16,
+        words_len: usize,
+        out: *mut u16,
+        out_len: usize,
+        work: *mut u16,
+        work_len: usize,
+    ) -> tp_answer;
+
     /// Writes the text of a lesson file.
     pub fn tp_lesson_text(file: *const u8, file_len: usize, words: *mut u16, words_len: usize, text: *mut u8, text_len: usize) -> tp_answer;
 }

@@ -6,7 +6,8 @@ mod refusal;
 mod sizes;
 
 pub use refusal::{Reason, Refusal};
-pub use sizes::{bit_words, sample_words, sample_work, text_room, MAX_BITS, MAX_FILE, MAX_SHARES, MAX_WORDS, MIN_BITS, MIN_SHARES};
+pub use sizes::{bit_words, polynomial_shares, polynomial_words, sample_words, sample_work, text_room};
+pub use sizes::{MAX_BITS, MAX_COEFFICIENTS, MAX_FILE, MAX_SHARES, MAX_WORDS, MIN_BITS, MIN_COEFFICIENTS, MIN_SHARES};
 
 /// An opened string: its k bits, bit 0 the lowest.
 ///
@@ -143,6 +144,47 @@ pub fn sample(n: usize, k: usize, q: u16, x: &[u16], y: &[u16], words: &[u16], o
             n,
             k,
             q,
+            x.as_ptr(),
+            x.len(),
+            y.as_ptr(),
+            y.len(),
+            words.as_ptr(),
+            words.len(),
+            out.as_mut_ptr(),
+            out.len(),
+            work.as_mut_ptr(),
+            work.len(),
+        )
+    })
+}
+
+/// Samples a polynomial: m coefficients, each as [`sample`] makes it. Lists hold coefficient after coefficient: coefficient t, from 0, has the n
+/// shares from position t * n on in x, y and output, and takes the W = [`sample_words`] words from position t * W on. Answers m * W, which is
+/// [`polynomial_words`]. With words drawn evenly, each apart from all others and used once, any n - 1 shares of each coefficient, all taken
+/// together, tell nothing of x and y. The first [`sample_work`] words of the work area are 0 afterwards.
+///
+/// Refuses, in this order, each for all coefficients before the next and with positions from the start of the whole list: `ShareCount`;
+/// `StringLength`; `Modulus`, for q below 2k + 1; `CoefficientCount`; `XCount` and `YCount`, for a list of not exactly [`polynomial_shares`];
+/// `XWidth` and `YWidth`, with the share's position; `WordCount`; `WordRange`, with the word's position; `OutputRoom`, for fewer than
+/// [`polynomial_shares`] output words; `WorkRoom`. Words, output words and work words past those are neither read nor written.
+#[allow(clippy::too_many_arguments)]
+pub fn sample_polynomial(
+    n: usize,
+    k: usize,
+    q: u16,
+    m: usize,
+    x: &[u16],
+    y: &[u16],
+    words: &[u16],
+    out: &mut [u16],
+    work: &mut [u16],
+) -> Result<usize, Refusal> {
+    counted(unsafe {
+        ffi::tp_sample_polynomial(
+            n,
+            k,
+            q,
+            m,
             x.as_ptr(),
             x.len(),
             y.as_ptr(),

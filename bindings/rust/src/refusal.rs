@@ -36,8 +36,8 @@ reasons! {
     1 ShareCount "n is not from 2 to 8",
     2 StringLength "k is not from 1 to 16",
     3 Modulus "q is too small",
-    4 XCount "the list of Boolean shares, of x where there are two, has not exactly n words",
-    5 YCount "the list of the shares of y has not exactly n words",
+    4 XCount "the list of Boolean shares, of x where there are two, has not exactly n words, or mn in a polynomial",
+    5 YCount "the list of the shares of y has not exactly n words, or mn in a polynomial",
     6 XWidth "a Boolean share, of x where there are two, has a bit at k or above",
     7 YWidth "a share of y has a bit at k or above",
     8 WordCount "there are too few random words, or the buffer for them is too short",
@@ -55,6 +55,7 @@ reasons! {
     20 WordLimit "a lesson file's count of random words is above 1,792",
     21 FileLength "a lesson file has more than 60,000 bytes",
     22 SetNumber "no published parameter set has this number",
+    23 CoefficientCount "m is not from 1 to 256",
 }
 
 impl Reason {

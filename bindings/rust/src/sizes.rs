@@ -12,13 +12,19 @@ pub const MIN_BITS: usize = 1;
 /// The greatest number of bits in a string.
 pub const MAX_BITS: usize = 16;
 
+/// The least number of coefficients in a polynomial.
+pub const MIN_COEFFICIENTS: usize = 1;
+
+/// The greatest number of coefficients in a polynomial.
+pub const MAX_COEFFICIENTS: usize = 256;
+
 /// The most random words that a sample takes, and the length of the word buffer of [`lesson_text`](crate::lesson_text).
 pub const MAX_WORDS: usize = 1_792;
 
 /// The most bytes of a lesson file.
 pub const MAX_FILE: usize = 60_000;
 
-/// The random words that [`convert_bit`](crate::convert_bit) takes: n(n - 1). This and the next two saturate.
+/// The random words that [`convert_bit`](crate::convert_bit) takes: n(n - 1). This and the next four saturate.
 pub const fn bit_words(n: usize) -> usize {
     n.saturating_mul(n.saturating_sub(1))
 }
@@ -28,9 +34,19 @@ pub const fn sample_words(n: usize, k: usize) -> usize {
     sample_work(n, k).saturating_mul(n.saturating_sub(1))
 }
 
-/// The words of work area that [`sample`](crate::sample) takes: 2kn.
+/// The words of work area that [`sample`](crate::sample) takes, and [`sample_polynomial`](crate::sample_polynomial) too: 2kn.
 pub const fn sample_work(n: usize, k: usize) -> usize {
     k.saturating_mul(2).saturating_mul(n)
+}
+
+/// The shares of x, of y and of output in [`sample_polynomial`](crate::sample_polynomial): mn each.
+pub const fn polynomial_shares(n: usize, m: usize) -> usize {
+    m.saturating_mul(n)
+}
+
+/// The random words that [`sample_polynomial`](crate::sample_polynomial) takes: 2mkn(n - 1).
+pub const fn polynomial_words(n: usize, k: usize, m: usize) -> usize {
+    m.saturating_mul(sample_words(n, k))
 }
 
 /// The bytes that the text buffer of [`lesson_text`](crate::lesson_text) must have for a file of so many.

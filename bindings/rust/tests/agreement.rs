@@ -15,6 +15,18 @@ fn sample_of(n: usize, k: usize, q: u16, words: usize, out: usize, work: usize) 
     sample(n, k, q, &shares, &shares, &vec![0; words], &mut vec![0; out], &mut vec![0; work])
 }
 
+/// A polynomial of zeros with lists of these lengths.
+fn polynomial_of([n, k, m]: [usize; 3], shares: usize, words: usize, out: usize, work: usize) -> Result<usize, Refusal> {
+    let zeros = vec![0; shares];
+    sample_polynomial(n, k, Q, m, &zeros, &zeros, &vec![0; words], &mut vec![0; out], &mut vec![0; work])
+}
+
+/// A polynomial of zeros with lists of the lengths that the sizes name.
+fn fitting_polynomial(n: usize, k: usize, m: usize) -> Result<usize, Refusal> {
+    let shares = polynomial_shares(n, m);
+    polynomial_of([n, k, m], shares, polynomial_words(n, k, m), shares, sample_work(n, k))
+}
+
 /// A converted bit 0 with lists of these lengths.
 fn bit_of(n: usize, words: usize, out: usize) -> Result<usize, Refusal> {
     convert_bit(n, Q, &vec![0; n], &vec![0; words], &mut vec![0; out])
@@ -43,6 +55,22 @@ fn sample_sizes_are_exact() {
 }
 
 #[test]
+fn polynomial_sizes_are_exact() {
+    for n in MIN_SHARES..=MAX_SHARES {
+        for k in MIN_BITS..=MAX_BITS {
+            for m in [MIN_COEFFICIENTS, 2, 1 + n * k] {
+                let (size, shares, words, work) = ([n, k, m], polynomial_shares(n, m), polynomial_words(n, k, m), sample_work(n, k));
+                assert_eq!(fitting_polynomial(n, k, m), Ok(words));
+                assert_eq!(polynomial_of(size, shares - 1, words, shares, work), refused(Reason::XCount, 0));
+                assert_eq!(polynomial_of(size, shares, words - 1, shares, work), refused(Reason::WordCount, 0));
+                assert_eq!(polynomial_of(size, shares, words, shares - 1, work), refused(Reason::OutputRoom, 0));
+                assert_eq!(polynomial_of(size, shares, words, shares, work - 1), refused(Reason::WorkRoom, 0));
+            }
+        }
+    }
+}
+
+#[test]
 fn bit_sizes_are_exact() {
     for n in MIN_SHARES..=MAX_SHARES {
         assert_eq!(bit_of(n, bit_words(n), n), Ok(bit_words(n)));
@@ -55,6 +83,8 @@ fn bit_sizes_are_exact() {
 fn sizes_of_unfit_numbers_do_not_overflow() {
     assert_eq!([bit_words(0), sample_words(0, 0), sample_work(0, 0)], [0; 3]);
     assert_eq!([bit_words(usize::MAX), sample_words(usize::MAX, 1), sample_work(usize::MAX, 1)], [usize::MAX; 3]);
+    assert_eq!([polynomial_shares(0, 0), polynomial_words(0, 0, 0)], [0; 2]);
+    assert_eq!([polynomial_shares(2, usize::MAX), polynomial_words(2, 1, usize::MAX)], [usize::MAX; 2]);
     assert_eq!(text_room(usize::MAX), 45);
 }
 
@@ -65,6 +95,12 @@ fn ranges_are_exact() {
     }
     for k in [MIN_BITS - 1, MAX_BITS + 1] {
         assert_eq!(sample_of(2, k, Q, sample_words(2, k), 2, sample_work(2, k)), refused(Reason::StringLength, 0));
+    }
+    for m in [MIN_COEFFICIENTS - 1, MAX_COEFFICIENTS + 1] {
+        assert_eq!(fitting_polynomial(2, 1, m), refused(Reason::CoefficientCount, 0));
+    }
+    for m in [MIN_COEFFICIENTS, MAX_COEFFICIENTS] {
+        assert_eq!(fitting_polynomial(MAX_SHARES, MAX_BITS, m), Ok(m * MAX_WORDS));
     }
     assert_eq!(sample_words(MAX_SHARES, MAX_BITS), MAX_WORDS);
     assert_eq!(lesson_text(&[], &mut [0; MAX_WORDS - 1], &mut [0; 45]), refused(Reason::WordCount, 0));
@@ -105,11 +141,12 @@ fn every_reason_of_a_call_is_met() {
         (open_residue(2, 3, &[0, 3]).map(drop), 16, Reason::ArithmeticRange, 1),
         (centre(3, OpenedResidue(3)).map(drop), 17, Reason::ResidueRange, 0),
         (parameter_set(8).map(drop), 22, Reason::SetNumber, 0),
+        (polynomial_of([2, 1, 0], 2, 4, 2, 4).map(drop), 23, Reason::CoefficientCount, 0),
     ]);
     for (found, number, reason, position) in &met {
         assert_eq!((*found, *number), (refused(*reason, *position), reason.number()));
     }
-    assert_eq!(met.len(), 18);
+    assert_eq!(met.len(), 19);
 }
 
 #[test]
@@ -132,10 +169,10 @@ fn every_reason_of_a_file_is_met() {
 
 #[test]
 fn numbers_and_reasons_are_one_to_one() {
-    for number in 1..=22 {
+    for number in 1..=23 {
         assert_eq!(Reason::from_number(number).map(Reason::number), Some(number));
     }
-    assert_eq!([0, 23, u32::MAX].map(Reason::from_number), [None; 3]);
+    assert_eq!([0, 24, u32::MAX].map(Reason::from_number), [None; 3]);
 }
 
 #[test]
