@@ -1,6 +1,6 @@
-//! A call of the library with its inputs, and what it should leave behind, worked out from document 01.
+//! A call of the library with its inputs, and what it should leave behind, worked out from the documents.
 
-use crate::calls::{centre, convert_bit, mask, open_residue, open_string, parameter_set, sample, weight_difference, Verdict};
+use crate::calls::{centre, convert_bit, mask, open_residue, open_string, parameter_set, sample, sample_polynomial, weight_difference, Verdict};
 use crate::lent::{guarded, unguarded, GUARDS};
 use crate::lesson::{lesson, MOST_BYTES, MOST_WORDS};
 use crate::show::{difference, hex};
@@ -15,10 +15,11 @@ pub enum Function {
     ParameterSet,
     ConvertBit,
     Sample,
+    SamplePolynomial,
     LessonText,
 }
 
-pub const FUNCTIONS: [Function; 9] = [
+pub const FUNCTIONS: [Function; 10] = [
     Function::Mask,
     Function::OpenString,
     Function::OpenResidue,
@@ -27,6 +28,7 @@ pub const FUNCTIONS: [Function; 9] = [
     Function::ParameterSet,
     Function::ConvertBit,
     Function::Sample,
+    Function::SamplePolynomial,
     Function::LessonText,
 ];
 
@@ -63,6 +65,10 @@ impl Function {
             Function::Sample => {
                 let refusals = &[(1, 0), (2, 0), (3, 0), (4, 0), (5, 0), (6, 7), (7, 7), (8, 0), (9, 1_791), (10, 0), (11, 0)];
                 form("tp_sample", &["n", "k", "q"], &["x", "y", "words", "out", "work"], refusals)
+            }
+            Function::SamplePolynomial => {
+                let refusals = &[(1, 0), (2, 0), (3, 0), (23, 0), (4, 0), (5, 0), (6, 2_047), (7, 2_047), (8, 0), (9, 458_751), (10, 0), (11, 0)];
+                form("tp_sample_polynomial", &["n", "k", "q", "m"], &["x", "y", "words", "out", "work"], refusals)
             }
             Function::LessonText => form("tp_lesson_text", &[], &["file", "words", "text"], &[(8, 0), (10, 0)]),
         }
@@ -157,6 +163,9 @@ impl Call {
             (Function::ParameterSet, &[number], []) => judged(parameter_set(number), |(k, q)| (k, q as i64)),
             (Function::ConvertBit, &[n, q], [bits, words, out]) => counted(convert_bit(n, q, bits, words, out)),
             (Function::Sample, &[n, k, q], [x, y, words, out, work]) => counted(sample(n, k, q, [x, y], words, out, work)),
+            (Function::SamplePolynomial, &[n, k, q, m], [x, y, words, out, work]) => {
+                counted(sample_polynomial([n, k, q, m], [x, y], words, out, work))
+            }
             (Function::LessonText, [], [file, words, text]) => counted(lesson_text(file, words, text)),
             _ => panic!("the inputs of another function"),
         };

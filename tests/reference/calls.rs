@@ -1,6 +1,6 @@
-//! The calls of document 01, written from the page alone and sharing no code with the library.
+//! The calls of document 01, and the polynomials of document 02, written from the pages alone and sharing no code with the library.
 
-/// How a call ends: what it answers, or document 01's number and place.
+/// How a call ends: what it answers, or the documents' number and place.
 pub type Verdict<T> = Result<T, (u64, usize)>;
 
 fn ask(holds: bool, number: u64, place: usize) -> Verdict<()> {
@@ -138,31 +138,46 @@ pub fn words_needed(n: u64, k: u64) -> u64 {
     2 * k * n * (n - 1)
 }
 
-/// The sampler. The strings are the shares of x and the shares of y.
-pub fn sample(n: u64, k: u64, q: u64, strings: [&[u64]; 2], words: &[u64], out: &mut [u64], work: &mut [u64]) -> Verdict<u64> {
-    let [x, y] = strings;
-    parameters(n, k, q)?;
-    ask(x.len() as u64 == n, 4, 0)?;
-    ask(y.len() as u64 == n, 5, 0)?;
-    ask_all(x, 6, |s| !has_bits_at_or_above(s, k))?;
-    ask_all(y, 7, |s| !has_bits_at_or_above(s, k))?;
-    let count = words_needed(n, k);
-    ask(words.len() as u64 >= count, 8, 0)?;
-    ask_all(&words[..count as usize], 9, |r| r < q)?;
-    ask(out.len() as u64 >= n, 10, 0)?;
-    ask(work.len() as u64 >= 2 * k * n, 11, 0)?;
-    let (n, k) = (n as usize, k as usize);
+/// The output shares of a sample, by the rows of its bits in the work area.
+fn shares_of_sample(k: usize, q: u64, [x, y]: [&[u64]; 2], words: &[u64], out: &mut [u64], work: &mut [u64]) {
+    let n = out.len();
     for row in 0..2 * k {
         let (shares, bit) = if row < k { (x, row) } else { (y, row - k) };
         let bits: Vec<u64> = shares.iter().map(|s| s >> bit & 1).collect();
         convert_bit(n as u64, q, &bits, &words[row * n * (n - 1)..], &mut work[row * n..]).expect("a shared bit and its words");
     }
-    for (i, share) in out[..n].iter_mut().enumerate() {
+    for (i, share) in out.iter_mut().enumerate() {
         let x_sum = (0..k).map(|row| work[row * n + i]).sum::<u64>() % q;
         let y_sum = (k..2 * k).map(|row| work[row * n + i]).sum::<u64>() % q;
         *share = minus(x_sum, y_sum, q);
     }
-    work[..2 * k * n].fill(0);
+}
+
+/// The sampler, which is a polynomial of one coefficient. The strings are the shares of x and the shares of y.
+pub fn sample(n: u64, k: u64, q: u64, strings: [&[u64]; 2], words: &[u64], out: &mut [u64], work: &mut [u64]) -> Verdict<u64> {
+    sample_polynomial([n, k, q, 1], strings, words, out, work)
+}
+
+/// Request A.1 of document 02: m coefficients, one after the other in all lists but the work area.
+pub fn sample_polynomial([n, k, q, m]: [u64; 4], strings: [&[u64]; 2], words: &[u64], out: &mut [u64], work: &mut [u64]) -> Verdict<u64> {
+    let [x, y] = strings;
+    parameters(n, k, q)?;
+    ask((1..=256).contains(&m), 23, 0)?;
+    ask(x.len() as u64 == m * n, 4, 0)?;
+    ask(y.len() as u64 == m * n, 5, 0)?;
+    ask_all(x, 6, |s| !has_bits_at_or_above(s, k))?;
+    ask_all(y, 7, |s| !has_bits_at_or_above(s, k))?;
+    let count = m * words_needed(n, k);
+    ask(words.len() as u64 >= count, 8, 0)?;
+    ask_all(&words[..count as usize], 9, |r| r < q)?;
+    ask(out.len() as u64 >= m * n, 10, 0)?;
+    ask(work.len() as u64 >= 2 * k * n, 11, 0)?;
+    for t in 0..m {
+        let shares = (t * n) as usize..((t + 1) * n) as usize;
+        let words = &words[(t * words_needed(n, k)) as usize..];
+        shares_of_sample(k as usize, q, strings.map(|list| &list[shares.clone()]), words, &mut out[shares.clone()], work);
+    }
+    work[..(2 * k * n) as usize].fill(0);
     Ok(count)
 }
 

@@ -108,22 +108,15 @@ impl Call {
                     let (bits_len, words_len, out_len) = (bits.len(), words.len(), out.len());
                     tp_convert_bit(n as usize, q as u16, bits.start(), bits_len, words.start(), words_len, out.start(), out_len).into()
                 }
-                (Function::Sample, &[n, k, q], [x, y, words, out, work]) => tp_sample(
-                    n as usize,
-                    k as usize,
-                    q as u16,
-                    x.start(),
-                    x.len(),
-                    y.start(),
-                    y.len(),
-                    words.start(),
-                    words.len(),
-                    out.start(),
-                    out.len(),
-                    work.start(),
-                    work.len(),
-                )
-                .into(),
+                (Function::Sample | Function::SamplePolynomial, numbers, [x, y, words, out, work]) => {
+                    let [x, y, words, out, work] = [x, y, words, out, work].map(|list| (list.start(), list.len()));
+                    let (n, k, q) = (numbers[0] as usize, numbers[1] as usize, numbers[2] as u16);
+                    match numbers.get(3) {
+                        None => tp_sample(n, k, q, x.0, x.1, y.0, y.1, words.0, words.1, out.0, out.1, work.0, work.1),
+                        Some(&m) => tp_sample_polynomial(n, k, q, m as usize, x.0, x.1, y.0, y.1, words.0, words.1, out.0, out.1, work.0, work.1),
+                    }
+                    .into()
+                }
                 _ => panic!("the inputs of another function"),
             }
         }
@@ -151,6 +144,10 @@ impl Call {
             (Function::Sample, &[n, k, q], [x, y, words, out, work]) => {
                 let (n, k, q) = (n as usize, k as usize, q as u16);
                 count(tinplateau::sample(n, k, q, x.list(), y.list(), words.list(), out.list_mut(), work.list_mut()))
+            }
+            (Function::SamplePolynomial, &[n, k, q, m], [x, y, words, out, work]) => {
+                let (n, k, q, m) = (n as usize, k as usize, q as u16, m as usize);
+                count(tinplateau::sample_polynomial(n, k, q, m, x.list(), y.list(), words.list(), out.list_mut(), work.list_mut()))
             }
             _ => panic!("the inputs of another function"),
         }

@@ -12,6 +12,7 @@ enum Fault {
     N,
     K,
     Q,
+    M,
     Set,
     /// A list that must have an exact length has another.
     Length(&'static str),
@@ -26,7 +27,7 @@ enum Fault {
 use Fault::*;
 
 /// The functions, how many calls of each in a round, and their faults in the order of the checks.
-const KINDS: [(Function, usize, &[Fault]); 9] = [
+const KINDS: [(Function, usize, &[Fault]); 10] = [
     (Function::Mask, 12, &[N, K, Wide("value"), Length("masks"), Wide("masks"), Short("out")]),
     (Function::OpenString, 8, &[N, K, Length("shares"), Wide("shares")]),
     (Function::OpenResidue, 8, &[N, Q, Length("shares"), High("shares")]),
@@ -35,15 +36,26 @@ const KINDS: [(Function, usize, &[Fault]); 9] = [
     (Function::ParameterSet, 2, &[Set]),
     (Function::ConvertBit, 15, &[N, Q, Length("bits"), Wide("bits"), Short("words"), High("words"), Short("out")]),
     (Function::Sample, 40, &[N, K, Q, Length("x"), Length("y"), Wide("x"), Wide("y"), Short("words"), High("words"), Short("out"), Short("work")]),
+    (
+        Function::SamplePolynomial,
+        8,
+        &[N, K, Q, M, Length("x"), Length("y"), Wide("x"), Wide("y"), Short("words"), High("words"), Short("out"), Short("work")],
+    ),
     (Function::LessonText, 5, &[Short("words"), Short("text")]),
 ];
 
-/// A call, n, k and q as it was made with them, and how many elements of each list it needs.
+/// Whether q is asked to be above 2k.
+fn samples(function: Function) -> bool {
+    matches!(function, Function::Sample | Function::SamplePolynomial)
+}
+
+/// A call, n, k, q and m as it was made with them, and how many elements of each list it needs.
 struct Draft {
     call: Call,
     n: u64,
     k: u64,
     q: u64,
+    m: u64,
     needed: Vec<usize>,
 }
 
@@ -84,8 +96,8 @@ fn lesson_lists(dice: &mut Dice, seed: u64, turn: usize) -> Vec<Vec<u64>> {
 }
 
 /// A good call. If n and k are unfit, nothing else is.
-fn good(dice: &mut Dice, seed: u64, turn: usize, function: Function, (n, k): (u64, u64)) -> Draft {
-    let q = modulus(dice, if function == Function::Sample { k } else { 1 });
+fn good(dice: &mut Dice, seed: u64, turn: usize, function: Function, [n, k, m]: [u64; 3]) -> Draft {
+    let q = modulus(dice, if samples(function) { k } else { 1 });
     let bit_words = n * (n - 1);
     let (numbers, lists, needed) = match function {
         Function::Mask => {
@@ -101,11 +113,12 @@ fn good(dice: &mut Dice, seed: u64, turn: usize, function: Function, (n, k): (u6
             let lists = vec![shares(dice, n, 1), words_lent(dice, q, bit_words), words_room(dice, n)];
             (vec![n, q], lists, vec![n, bit_words, n])
         }
-        Function::Sample => {
-            let needed = vec![n, n, words_needed(n, k), n, 2 * k * n];
-            let words = words_lent(dice, q, needed[2]);
-            let lists = vec![shares(dice, n, k), shares(dice, n, k), words, words_room(dice, n), words_room(dice, 2 * k * n)];
-            (vec![n, k, q], lists, needed)
+        Function::Sample | Function::SamplePolynomial => {
+            let needed = vec![m * n, m * n, m * words_needed(n, k), m * n, 2 * k * n];
+            let [x, y] = [(); 2].map(|()| (0..m).flat_map(|_| shares(dice, n, k)).collect());
+            let lists = vec![x, y, words_lent(dice, q, needed[2]), words_room(dice, needed[3]), words_room(dice, needed[4])];
+            let numbers = if function == Function::Sample { vec![n, k, q] } else { vec![n, k, q, m] };
+            (numbers, lists, needed)
         }
         Function::LessonText => {
             let lists = lesson_lists(dice, seed, turn);
@@ -114,7 +127,7 @@ fn good(dice: &mut Dice, seed: u64, turn: usize, function: Function, (n, k): (u6
         }
     };
     let k = if function == Function::ConvertBit { 1 } else { k };
-    Draft { call: Call { function, numbers, lists }, n, k, q, needed: needed.into_iter().map(|count| count as usize).collect() }
+    Draft { call: Call { function, numbers, lists }, n, k, q, m, needed: needed.into_iter().map(|count| count as usize).collect() }
 }
 
 /// The first, the last or any of so many places.
@@ -154,7 +167,7 @@ impl Draft {
     }
 
     fn spoil(&mut self, dice: &mut Dice, fault: Fault) {
-        let (k, q) = (self.k, self.q);
+        let (k, q, m) = (self.k, self.q, self.m);
         match fault {
             N if (2..=8).contains(&self.n) => {
                 self.set("n", dice.pick(&[0, 1, 9, 10, 255, 258, 65_538, 1 << 32 | 2, 1 << 63 | 2, u64::MAX - 1, u64::MAX]))
@@ -165,14 +178,19 @@ impl Draft {
             // The call was made with an unfit n or k.
             N | K => (),
             Q => {
-                let least = if self.call.function == Function::Sample { 2 * k + 1 } else { 3 };
+                let least = if samples(self.call.function) { 2 * k + 1 } else { 3 };
                 let any = dice.below(least);
                 self.set("q", dice.pick(&[0, 1, 2.min(least - 1), least - 1, least - 1, any]))
+            }
+            // The lists fit those that wrap around or lose high bits.
+            M => {
+                let any = dice.between(257, 1_000);
+                self.set("m", dice.pick(&[0, 257, any, 1 << 16 | m, 1 << 32 | m, 1 << 62 | m, 1 << 63 | m, u64::MAX - 1, u64::MAX]))
             }
             Set => self.set("number", dice.pick(&[0, 8, 9, 255, 257, 65_537, 1 << 32 | 1, 1 << 63 | 1, u64::MAX])),
             Length(name) => {
                 let (list, needed) = self.list(name);
-                let (any, element) = (dice.between(needed as u64 + 1, 20) as usize, list.first().copied().unwrap_or(0));
+                let (any, element) = (dice.between(needed as u64 + 1, needed as u64 + 20) as usize, list.first().copied().unwrap_or(0));
                 list.resize(dice.pick(&[needed.saturating_sub(1), needed + 1, 0, any]), element);
             }
             Short(name) => {
@@ -216,19 +234,46 @@ fn kind(number: usize) -> (Function, &'static [Fault], usize) {
     unreachable!("a place inside the round")
 }
 
+/// The coefficients of a polynomial: mostly few, since many take long.
+fn coefficients(dice: &mut Dice) -> u64 {
+    match dice.below(16) {
+        0 => dice.pick(&[255, 256]),
+        1 => dice.between(3, 254),
+        2 | 3 => 1,
+        4..=6 => 2,
+        _ => dice.between(3, 6),
+    }
+}
+
+/// n, k and m. Only the largest polynomial has the last place of a share or word.
+fn size(dice: &mut Dice, function: Function, turn: usize, faults: &[Fault]) -> [u64; 3] {
+    let (n, k) = if dice.one_in(6) { dice.pick(&[(2, 1), (8, 1), (2, 16), (8, 16)]) } else { (dice.between(2, 8), dice.between(1, 16)) };
+    match faults {
+        _ if function != Function::SamplePolynomial => [n, k, 1],
+        // One pair of n and k after the other.
+        [] => {
+            let pair = (turn / 5 * 2 + turn % 5) as u64 % 112;
+            [2 + pair % 7, 1 + pair / 7, coefficients(dice)]
+        }
+        [Wide(_)] if dice.one_in(2) => [8, 1, 256],
+        [High(_)] if dice.one_in(2) => [8, 16, 256],
+        _ => [n, k, coefficients(dice)],
+    }
+}
+
 /// The call of a number. Where n or k is to be unfit, the lists may have been made for it.
 pub fn made(seed: u64, number: usize) -> Call {
     let (function, all, turn) = kind(number);
     let mut dice = Dice::new(seed, number as u64);
     let faults = faults(&mut dice, turn, all);
-    let (mut n, mut k) = if dice.one_in(6) { dice.pick(&[(2, 1), (8, 1), (2, 16), (8, 16)]) } else { (dice.between(2, 8), dice.between(1, 16)) };
+    let [mut n, mut k, m] = size(&mut dice, function, turn, &faults);
     if faults.contains(&N) && dice.one_in(2) {
         n = dice.pick(&[1, 9]);
     }
     if faults.contains(&K) && dice.one_in(4) {
         k = 0;
     }
-    let mut draft = good(&mut dice, seed, turn, function, (n, k));
+    let mut draft = good(&mut dice, seed, turn, function, [n, k, m]);
     for fault in faults {
         draft.spoil(&mut dice, fault);
     }

@@ -1,5 +1,5 @@
-//! The library, called through its C interface and through the Rust bindings, compared with the second reading of document 01 that this folder
-//! holds.
+//! The library, called through its C interface and through the Rust bindings, compared with the second reading of the documents that this
+//! folder holds.
 //!
 //! `library SEED COUNT` compares so many calls made from the seed, and counts the secrecy rule through the library.
 
@@ -12,6 +12,7 @@ mod inputs;
 mod lent;
 mod lesson;
 mod met;
+mod polynomial;
 mod secrecy;
 mod show;
 mod tally;
@@ -73,10 +74,17 @@ impl Comparison {
         self.compare(&call).answer.value
     }
 
-    /// The shares of an accepted sample open to the weight difference of the opened strings.
-    fn open_sample(&mut self, call: &Call, outcome: &Outcome) {
-        let [n, k, q] = <[u64; 3]>::try_from(&call.numbers[..]).expect("n, k and q");
-        let (x, y, shares) = (&call.lists[0], &call.lists[1], &outcome.list(3)[..n as usize]);
+    /// The shares of each accepted coefficient open to the weight difference of its opened strings. A sample has one.
+    fn open_coefficients(&mut self, call: &Call, outcome: &Outcome) {
+        let [n, k, q] = <[u64; 3]>::try_from(&call.numbers[..3]).expect("n, k and q");
+        let lists = [&call.lists[0], &call.lists[1], outcome.list(3)].map(|list| list.chunks_exact(n as usize));
+        let [x, y, shares] = lists;
+        for ((x, y), shares) in x.zip(y).zip(shares) {
+            self.open_sample(call, [n, k, q], [x, y], shares);
+        }
+    }
+
+    fn open_sample(&mut self, call: &Call, [n, k, q]: [u64; 3], [x, y]: [&[u64]; 2], shares: &[u64]) {
         let strings = [x, y].map(|list| self.value(Function::OpenString, &[n, k], &[list]) as u64);
         let difference = self.value(Function::WeightDifference, &[k, strings[0], strings[1]], &[]);
         let residue = self.value(Function::OpenResidue, &[n, q], &[shares]) as u64;
@@ -100,7 +108,7 @@ impl Comparison {
         let outcome = self.compare(call);
         match call.function {
             _ if outcome.answer.code != 0 => (),
-            Function::Sample => self.open_sample(call, &outcome),
+            Function::Sample | Function::SamplePolynomial => self.open_coefficients(call, &outcome),
             Function::Mask => self.open_mask(call, &outcome),
             Function::LessonText => {
                 self.lessons.count(&lesson(&bytes(&call.lists[0]), &mut [0; MOST_WORDS as usize]));

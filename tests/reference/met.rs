@@ -1,6 +1,7 @@
 //! What the compared calls met: which function accepted or refused, why and at which places.
 
 use crate::call::{Answer, Call, Function, FUNCTIONS};
+use crate::polynomial;
 use crate::tally::print_gaps;
 use std::collections::{BTreeMap, BTreeSet};
 
@@ -12,6 +13,8 @@ struct Counts {
     places: BTreeMap<u64, BTreeSet<u64>>,
     /// The n and k of the accepted calls.
     pairs: BTreeSet<(u64, u64)>,
+    /// What else calls for polynomials met.
+    polynomials: BTreeSet<String>,
 }
 
 /// Counts over all calls of a layer.
@@ -25,6 +28,9 @@ impl Met {
     pub fn count(&mut self, call: &Call, answer: Answer) {
         let counts = self.functions.entry(call.function).or_default();
         *counts.by_code.entry(answer.code).or_default() += 1;
+        if call.function == Function::SamplePolynomial {
+            counts.polynomials.extend(polynomial::met(call, answer));
+        }
         if answer.code != 0 {
             counts.places.entry(answer.code).or_default().insert(answer.place);
         } else if let (Some(n), Some(k)) = (call.number("n"), call.number("k")) {
@@ -69,7 +75,8 @@ impl Counts {
         format!("{} {}, accepted {}, refused {}", form.name, self.all(), self.times(0), refusals.join(", "))
     }
 
-    /// What the calls should have met and did not: each refusal, at the first and the last place, and acceptance with every n and k.
+    /// What the calls should have met and did not: each refusal, at the first and the last place, acceptance with every n and k, and what
+    /// polynomials should meet besides.
     fn gaps(&self, function: Function) -> Vec<String> {
         let form = function.form();
         let mut gaps = Vec::new();
@@ -85,6 +92,10 @@ impl Counts {
         }
         if form.numbers.starts_with(&["n", "k"]) && self.pairs.len() != 7 * 16 {
             gaps.push(format!("{} accepts only {} pairs of n and k", form.name, self.pairs.len()));
+        }
+        if function == Function::SamplePolynomial {
+            let missing = polynomial::to_meet().into_iter().filter(|met| !self.polynomials.contains(met));
+            gaps.extend(missing.map(|met| format!("{} is never {met}", form.name)));
         }
         gaps
     }

@@ -1,10 +1,10 @@
-//! The secrecy rule of document 01, counted: over all full word lists, any n − 1 shares take each of their values equally often for every
-//! input. A habit that document 01 warns of breaks that, and the count shows it.
+//! The secrecy rules of documents 01 and 02, counted: over all full word lists, any n − 1 shares of each coefficient take each of their values
+//! equally often for every input. All shares do not, nor do any with a habit that document 01 warns of, and the count shows it.
 
-use std::collections::BTreeMap;
+use std::collections::{BTreeMap, BTreeSet};
 use tinplateau::Refusal;
 
-/// A call on shared bits with a full list of words, which answers how many it used.
+/// A call on shared bits with a full list of words, n(n − 1) for each bit, which answers how many it used.
 type Maker = fn(q: u16, bits: &[u16], words: &[u16], out: &mut [u16]) -> Result<usize, Refusal>;
 
 fn convert_bit(q: u16, bits: &[u16], words: &[u16], out: &mut [u16]) -> Result<usize, Refusal> {
@@ -15,6 +15,12 @@ fn convert_bit(q: u16, bits: &[u16], words: &[u16], out: &mut [u16]) -> Result<u
 fn sample(q: u16, bits: &[u16], words: &[u16], out: &mut [u16]) -> Result<usize, Refusal> {
     let (x, y) = bits.split_at(out.len());
     tinplateau::sample(out.len(), 1, q, x, y, words, out, &mut [0; 16])
+}
+
+/// A polynomial of two coefficients with k 1: the shares of x of both, then those of y.
+fn polynomial(q: u16, bits: &[u16], words: &[u16], out: &mut [u16]) -> Result<usize, Refusal> {
+    let (x, y) = bits.split_at(out.len());
+    tinplateau::sample_polynomial(out.len() / 2, 1, q, 2, x, y, words, out, &mut [0; 16])
 }
 
 /// Goes on to the next list of numbers below the bound. After the last it answers false.
@@ -29,15 +35,25 @@ fn advance(list: &mut [u16], bound: u16) -> bool {
     false
 }
 
-/// For each share left out, how often each value of the others occurs. The values of several shares are read as one number to the base q.
-fn counts(make: Maker, q: u16, n: usize, bits: &[u16]) -> Vec<Vec<usize>> {
-    let mut counts = vec![vec![0; (q as usize).pow(n as u32 - 1)]; n];
-    let (mut words, mut out) = (vec![0; bits.len() * (n - 1)], vec![0; n]);
+/// The places of the other shares in the output, for each choice of a share to leave out in each coefficient.
+fn others(n: usize, coefficients: usize) -> Vec<Vec<usize>> {
+    let mut chosen = vec![vec![]];
+    for t in 0..coefficients {
+        let with = |seen: &Vec<usize>, left_out| seen.iter().copied().chain((t * n..(t + 1) * n).filter(|place| *place != left_out)).collect();
+        chosen = chosen.iter().flat_map(|seen| (t * n..(t + 1) * n).map(move |left_out| with(seen, left_out))).collect();
+    }
+    chosen
+}
+
+/// For each list of places seen, how often each value of the shares there occurs, of so many coefficients. The values of several shares are
+/// read as one number to the base q.
+fn counts(make: Maker, q: u16, n: usize, coefficients: usize, bits: &[u16], seen: &[Vec<usize>]) -> Vec<Vec<usize>> {
+    let mut counts: Vec<Vec<usize>> = seen.iter().map(|places| vec![0; (q as usize).pow(places.len() as u32)]).collect();
+    let (mut words, mut out) = (vec![0; bits.len() * (n - 1)], vec![0; coefficients * n]);
     loop {
         assert_eq!(make(q, bits, &words, &mut out), Ok(words.len()), "bits {bits:?}, words {words:?}");
-        for (left_out, counts) in counts.iter_mut().enumerate() {
-            let others = out[..left_out].iter().chain(&out[left_out + 1..]);
-            counts[others.fold(0, |number, share| number * q as usize + *share as usize)] += 1;
+        for (places, counts) in seen.iter().zip(&mut counts) {
+            counts[places.iter().fold(0, |number, place| number * q as usize + out[*place] as usize)] += 1;
         }
         if !advance(&mut words, q) {
             return counts;
@@ -45,12 +61,12 @@ fn counts(make: Maker, q: u16, n: usize, bits: &[u16]) -> Vec<Vec<usize>> {
     }
 }
 
-/// Whether every value occurs equally often for every input, which is so many bits of n shares each.
-fn is_even(name: &str, make: Maker, bits: usize, n: usize, q: u16) -> bool {
-    let mut input = vec![0; bits * n];
-    let each = (q as usize).pow((input.len() * (n - 1) - (n - 1)) as u32);
+/// Whether every value occurs equally often for every input, which is so many bits of n shares each, for so many coefficients.
+fn is_even(name: &str, make: Maker, [bits, coefficients]: [usize; 2], n: usize, q: u16) -> bool {
+    let (mut input, seen) = (vec![0; bits * n], others(n, coefficients));
+    let each = (q as usize).pow(((input.len() - coefficients) * (n - 1)) as u32);
     loop {
-        let found = counts(make, q, n, &input);
+        let found = counts(make, q, n, coefficients, &input, &seen);
         if found.iter().flatten().any(|count| *count != each) {
             eprintln!("{name} n {n} q {q}, input {input:?}: {found:?}, and not {each} each");
             return false;
@@ -61,6 +77,22 @@ fn is_even(name: &str, make: Maker, bits: usize, n: usize, q: u16) -> bool {
     }
     println!("  {name} n {n} q {q}: {each} times each, whichever share is left out, for each of {} inputs", 1 << input.len());
     true
+}
+
+/// With no share left out, a polynomial's shares are spread in as many ways as its two coefficients have values modulo 3, and by these.
+fn all_shares_tell() -> bool {
+    let mut spreads: BTreeMap<Vec<Vec<usize>>, BTreeSet<Vec<u16>>> = BTreeMap::new();
+    let (n, q, mut input) = (2, 3, [0; 8]);
+    loop {
+        let values = [0, n].map(|t| (q + (input[t] ^ input[t + 1]) - (input[t + 4] ^ input[t + 5])) % q);
+        spreads.entry(counts(polynomial, q, n, 2, &input, &[vec![0, 1, 2, 3]])).or_default().insert(values.to_vec());
+        if !advance(&mut input, 2) {
+            break;
+        }
+    }
+    let right = spreads.len() == 9 && spreads.values().all(|values| values.len() == 1);
+    println!("  tp_sample_polynomial k 1 m 2 n {n} q {q}, no share left out: {} spreads, one for each pair of samples", spreads.len());
+    right
 }
 
 /// The modulus of document 01's example, in which a learner sees one share of a sample with n 2 and k 1.
@@ -132,7 +164,7 @@ impl Way {
         let mut sharings_by_count: BTreeMap<usize, usize> = BTreeMap::new();
         let mut right = true;
         for bits in sharings(sample) {
-            let count = counts(self.make, Q, 2, &bits)[1][seen as usize];
+            let count = counts(self.make, Q, 2, 1, &bits, &[vec![0]])[0][seen as usize];
             *sharings_by_count.entry(count).or_default() += 1;
             right &= count == (self.times)(seen, bits);
         }
@@ -153,19 +185,21 @@ fn first_share_tells_nothing() -> bool {
     [7, 1].map(|seen| WAYS.map(|way| way.is_right(seen))) == [[true; 2]; 2]
 }
 
-/// The one-bit call, and the sampler with k 1.
+/// The one-bit call, and the sampler and polynomials with k 1.
 pub fn holds() -> bool {
     println!("secrecy: how often each value of the other shares occurs over all word lists");
     let right = [
-        is_even("tp_convert_bit", convert_bit, 1, 2, 3),
-        is_even("tp_convert_bit", convert_bit, 1, 2, 4),
-        is_even("tp_convert_bit", convert_bit, 1, 2, 5),
-        is_even("tp_convert_bit", convert_bit, 1, 3, 3),
-        is_even("tp_sample k 1", sample, 2, 2, 3),
-        is_even("tp_sample k 1", sample, 2, 2, 4),
-        is_even("tp_sample k 1", sample, 2, 2, 5),
-        is_even("tp_sample k 1", sample, 2, 2, Q),
-        is_even("tp_sample k 1", sample, 2, 3, 3),
+        is_even("tp_convert_bit", convert_bit, [1, 1], 2, 3),
+        is_even("tp_convert_bit", convert_bit, [1, 1], 2, 4),
+        is_even("tp_convert_bit", convert_bit, [1, 1], 2, 5),
+        is_even("tp_convert_bit", convert_bit, [1, 1], 3, 3),
+        is_even("tp_sample k 1", sample, [2, 1], 2, 3),
+        is_even("tp_sample k 1", sample, [2, 1], 2, 4),
+        is_even("tp_sample k 1", sample, [2, 1], 2, 5),
+        is_even("tp_sample k 1", sample, [2, 1], 2, Q),
+        is_even("tp_sample k 1", sample, [2, 1], 3, 3),
+        is_even("tp_sample_polynomial k 1 m 2", polynomial, [4, 2], 2, 3),
+        all_shares_tell(),
         first_share_tells_nothing(),
     ];
     right.iter().all(|right| *right)
