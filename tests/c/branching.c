@@ -1,13 +1,25 @@
-/* A tp_sample that branches on the words: what tests/machine_code must find out when it counts instructions. */
+/* Samplers that branch on the words: what tests/machine_code must find out when it counts instructions. */
 #include "tinplateau.h"
 
-tp_answer tp_sample(size_t n, size_t k, uint16_t q, const uint16_t *x, size_t x_len, const uint16_t *y, size_t y_len, const uint16_t *words,
-                    size_t words_len, uint16_t *out, size_t out_len, uint16_t *work, size_t work_len)
+static tp_answer branch(const uint16_t *words, size_t words_len, uint16_t *out)
 {
-    (void)n, (void)k, (void)q, (void)x, (void)x_len, (void)y, (void)y_len, (void)out_len, (void)work, (void)work_len;
     for (size_t i = 0; i < words_len; i++) {
         if (words[i] % 2 == 1)
             out[0] = words[i];
     }
     return (tp_answer){0, words_len};
+}
+
+tp_answer tp_sample(size_t n, size_t k, uint16_t q, const uint16_t *x, size_t x_len, const uint16_t *y, size_t y_len, const uint16_t *words,
+                    size_t words_len, uint16_t *out, size_t out_len, uint16_t *work, size_t work_len)
+{
+    (void)n, (void)k, (void)q, (void)x, (void)x_len, (void)y, (void)y_len, (void)out_len, (void)work, (void)work_len;
+    return branch(words, words_len, out);
+}
+
+tp_answer tp_sample_polynomial(size_t n, size_t k, uint16_t q, size_t m, const uint16_t *x, size_t x_len, const uint16_t *y, size_t y_len,
+                               const uint16_t *words, size_t words_len, uint16_t *out, size_t out_len, uint16_t *work, size_t work_len)
+{
+    (void)n, (void)k, (void)q, (void)m, (void)x, (void)x_len, (void)y, (void)y_len, (void)out_len, (void)work, (void)work_len;
+    return branch(words, words_len, out);
 }

@@ -1,12 +1,12 @@
 /* A client of the C interface: every function, with every answer that it can give, and every buffer checked after each call. */
 #include "client.h"
 
-void check_shares(const uint16_t shares[SHARES], list expected)
+void check_shares(const uint16_t *shares, list expected)
 {
     CHECK(equal(shares, expected.at, expected.len * sizeof *shares));
 }
 
-static void draw(uint16_t *numbers, size_t count, uint32_t bound)
+void draw(uint16_t *numbers, size_t count, uint32_t bound)
 {
     for (size_t i = 0; i < count; i++)
         numbers[i] = random_below(bound);
@@ -74,6 +74,7 @@ static void run_pass(enum pass next)
     conversion_cases();
     sampler_cases();
     sample_all_sizes();
+    polynomial_cases();
     lesson_cases();
     size_cases();
 }

@@ -5,7 +5,7 @@
 #include "lend.h"
 #include "tinplateau.h"
 
-enum { SPARE = 3, SHARES = 8, BITS = 16, SAMPLE_WORDS = 2 * BITS * SHARES * (SHARES - 1) };
+enum { SPARE = 3, SHARES = 8, BITS = 16, COEFFICIENTS = 256, SAMPLE_WORDS = 2 * BITS * SHARES * (SHARES - 1) };
 
 /* A call of tp_mask and what it is to answer. */
 struct mask_case {
@@ -18,7 +18,7 @@ struct mask_case {
     list shares;
 };
 
-/* A call of tp_sample and what it is to answer. */
+/* A call of tp_sample, or of tp_sample_polynomial, and what it is to answer. */
 struct sample_case {
     int line;
     size_t n, k;
@@ -33,13 +33,18 @@ struct sample_case {
  * that an accepted call makes are copied. */
 void mask(const struct mask_case *c, size_t spare, uint16_t shares[SHARES]);
 void sample(const struct sample_case *c, size_t spare, uint16_t shares[SHARES]);
+void sample_polynomial(size_t m, const struct sample_case *c, size_t spare, uint16_t *shares);
 
 /* The shares begin with those expected. */
-void check_shares(const uint16_t shares[SHARES], list expected);
+void check_shares(const uint16_t *shares, list expected);
+
+/* Numbers below the bound. */
+void draw(uint16_t *numbers, size_t count, uint32_t bound);
 
 void masking_cases(void);
 void conversion_cases(void);
 void sampler_cases(void);
+void polynomial_cases(void);
 void lesson_cases(void);
 void size_cases(void);
 

@@ -1,13 +1,15 @@
-/* One call of tp_sample: count n k q input. Input 0 is all zeros, 1 all largest values, and another number a seed. */
+/* One call: count tp_sample 1 n k q input, or count tp_sample_polynomial m n k q input. Input 0 is all zeros, 1 all largest values, and another
+ * number a seed. */
 #include "seeded.h"
 #include "tinplateau.h"
 
 #include <stdio.h>
 #include <stdlib.h>
+#include <string.h>
 
-enum { SHARES = 8, ROWS = 32, SAMPLE_WORDS = ROWS * SHARES * (SHARES - 1) };
+enum { SHARES = 8, ROWS = 32, SAMPLE_WORDS = ROWS * SHARES * (SHARES - 1), MOST = 3 };
 
-static uint16_t x[SHARES], y[SHARES], words[SAMPLE_WORDS], out[SHARES], work[ROWS * SHARES];
+static uint16_t x[MOST * SHARES], y[MOST * SHARES], words[MOST * SAMPLE_WORDS], out[MOST * SHARES], work[ROWS * SHARES];
 
 static void make(uint16_t *list, size_t len, uint32_t bound, unsigned long input)
 {
@@ -21,16 +23,19 @@ static void make(uint16_t *list, size_t len, uint32_t bound, unsigned long input
 
 int main(int argc, char **argv)
 {
-    if (argc != 5)
+    if (argc != 7)
         return EXIT_FAILURE;
-    size_t n = strtoul(argv[1], NULL, 10), k = strtoul(argv[2], NULL, 10), used = 2 * k * n * (n - 1);
-    uint16_t q = (uint16_t)strtoul(argv[3], NULL, 10);
-    unsigned long input = strtoul(argv[4], NULL, 10);
-    if (n > SHARES || 2 * k > ROWS)
+    size_t m = strtoul(argv[2], NULL, 10), n = strtoul(argv[3], NULL, 10), k = strtoul(argv[4], NULL, 10);
+    size_t shares = m * n, used = m * 2 * k * n * (n - 1);
+    uint16_t q = (uint16_t)strtoul(argv[5], NULL, 10);
+    unsigned long input = strtoul(argv[6], NULL, 10);
+    if (m > MOST || n > SHARES || 2 * k > ROWS)
         return EXIT_FAILURE;
-    make(x, n, 1u << k, input);
-    make(y, n, 1u << k, input);
+    make(x, shares, 1u << k, input);
+    make(y, shares, 1u << k, input);
     make(words, used, q, input);
-    tp_answer answer = tp_sample(n, k, q, x, n, y, n, words, used, out, n, work, 2 * k * n);
+    tp_answer answer = strcmp(argv[1], "tp_sample") == 0
+                           ? tp_sample(n, k, q, x, shares, y, shares, words, used, out, shares, work, 2 * k * n)
+                           : tp_sample_polynomial(n, k, q, m, x, shares, y, shares, words, used, out, shares, work, 2 * k * n);
     return answer.code == 0 && answer.value == used ? EXIT_SUCCESS : EXIT_FAILURE;
 }

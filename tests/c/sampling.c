@@ -80,30 +80,46 @@ void conversion_cases(void)
     bit_refused();
 }
 
-void sample(const struct sample_case *c, size_t spare, uint16_t shares[SHARES])
+/* With no number of coefficients it is one sample. */
+static void call_sampler(const size_t *m, const struct sample_case *c, size_t spare, uint16_t *shares)
 {
     static const uint16_t zeros[2 * BITS * SHARES];
     bool accepted = c->answer.code == 0;
     lent x = lend(c->x, 0), y = lend(c->y, 0), words = lend(c->words, spare), out = lend_room(c->out + spare), work = lend_room(c->work + spare);
-    tp_answer answer = tp_sample(c->n, c->k, c->q, WORDS(x), WORDS(y), WORDS(words), WORDS(out), WORDS(work));
+    tp_answer answer = m == NULL ? tp_sample(c->n, c->k, c->q, WORDS(x), WORDS(y), WORDS(words), WORDS(out), WORDS(work))
+                                 : tp_sample_polynomial(c->n, c->k, c->q, *m, WORDS(x), WORDS(y), WORDS(words), WORDS(out), WORDS(work));
     CHECK(answer.code == c->answer.code);
     CHECK(answer.value == c->answer.value);
     take_back_kept(x);
     take_back_kept(y);
     take_back_kept(words);
-    take_back_words(out, shares, accepted ? c->n : 0);
+    take_back_words(out, shares, accepted ? (m == NULL ? 1 : *m) * c->n : 0);
     take_back(work, zeros, accepted ? 2 * c->k * c->n * sizeof *zeros : 0);
     check_shares(shares, c->shares);
 }
 
+void sample(const struct sample_case *c, size_t spare, uint16_t shares[SHARES])
+{
+    call_sampler(NULL, c, spare, shares);
+}
+
+void sample_polynomial(size_t m, const struct sample_case *c, size_t spare, uint16_t *shares)
+{
+    call_sampler(&m, c, spare, shares);
+}
+
+/* Each is a polynomial of one coefficient too. */
 static void sample_all(const struct sample_case *cases, size_t count)
 {
     for (size_t i = 0; i < count; i++) {
         uint16_t shares[SHARES];
         BEGIN_CASE(&cases[i]);
         sample(&cases[i], 0, shares);
-        if (cases[i].answer.code == 0)
+        sample_polynomial(1, &cases[i], 0, shares);
+        if (cases[i].answer.code == 0) {
             sample(&cases[i], SPARE, shares);
+            sample_polynomial(1, &cases[i], SPARE, shares);
+        }
     }
 }
 

@@ -4,7 +4,7 @@
 #include <stdlib.h>
 #include <string.h>
 
-static const uint16_t zeros[TP_MAX_WORDS];
+static const uint16_t zeros[TP_POLYNOMIAL_WORDS(TP_MAX_SHARES, TP_MAX_BITS, TP_MAX_COEFFICIENTS)];
 
 /* A sample of zeros. */
 static void sample_zeros(size_t n, size_t k, size_t words, size_t work, tp_answer answer)
@@ -22,6 +22,31 @@ static void sample_sizes(size_t n, size_t k)
     sample_zeros(n, k, words, work - 1, (tp_answer){TP_WORK_ROOM, 0});
 }
 
+/* A polynomial of zeros. */
+static void polynomial_zeros(size_t n, size_t k, size_t m, size_t shares, size_t words, size_t out, tp_answer answer)
+{
+    static uint16_t made[TP_POLYNOMIAL_SHARES(TP_MAX_SHARES, TP_MAX_COEFFICIENTS)];
+    size_t work = TP_SAMPLE_WORK(n, k);
+    struct sample_case c = CASE(n, k, 65535, {zeros, shares}, {zeros, shares}, {zeros, words}, out, work, answer, NONE);
+    sample_polynomial(m, &c, 0, made);
+}
+
+static void polynomial_sizes(size_t n, size_t k, size_t m)
+{
+    size_t shares = TP_POLYNOMIAL_SHARES(n, m), words = TP_POLYNOMIAL_WORDS(n, k, m);
+    polynomial_zeros(n, k, m, shares, words, shares, (tp_answer){TP_ACCEPTED, words});
+    polynomial_zeros(n, k, m, shares - 1, words, shares, (tp_answer){TP_X_COUNT, 0});
+    polynomial_zeros(n, k, m, shares + 1, words, shares, (tp_answer){TP_X_COUNT, 0});
+    polynomial_zeros(n, k, m, shares, words - 1, shares, (tp_answer){TP_WORD_COUNT, 0});
+    polynomial_zeros(n, k, m, shares, words, shares - 1, (tp_answer){TP_OUTPUT_ROOM, 0});
+}
+
+static void polynomial_unfit(size_t m)
+{
+    size_t shares = TP_POLYNOMIAL_SHARES(2, m);
+    polynomial_zeros(2, 1, m, shares, TP_POLYNOMIAL_WORDS(2, 1, m), shares, (tp_answer){TP_COEFFICIENT_COUNT, 0});
+}
+
 static void convert_sizes(size_t n)
 {
     uint16_t out[TP_MAX_SHARES];
@@ -35,9 +60,12 @@ static void all_sizes(void)
 {
     for (size_t n = TP_MIN_SHARES; n <= TP_MAX_SHARES; n++) {
         convert_sizes(n);
-        for (size_t k = TP_MIN_BITS; k <= TP_MAX_BITS; k++)
+        for (size_t k = TP_MIN_BITS; k <= TP_MAX_BITS; k++) {
             sample_sizes(n, k);
+            polynomial_sizes(n, k, TP_MIN_COEFFICIENTS + (n + k) % 3);
+        }
     }
+    polynomial_sizes(TP_MAX_SHARES, TP_MAX_BITS, TP_MAX_COEFFICIENTS);
 }
 
 static void limits(void)
@@ -45,10 +73,13 @@ static void limits(void)
     size_t work = TP_SAMPLE_WORK(TP_MAX_SHARES, TP_MAX_BITS);
     CHECK(TP_SAMPLE_WORDS(TP_MAX_SHARES, TP_MAX_BITS) == TP_MAX_WORDS);
     CHECK(TP_BIT_WORDS(1 + 2) == 6 && TP_SAMPLE_WORDS(1 + 1, 1 + 2) == 12 && TP_SAMPLE_WORK(1 + 1, 1 + 2) == 12 && TP_TEXT_ROOM(1 + 1) == 51);
+    CHECK(TP_POLYNOMIAL_SHARES(1 + 1, 1 + 2) == 6 && TP_POLYNOMIAL_WORDS(1 + 1, 1 + 2, 1 + 1) == 24);
     sample_zeros(TP_MIN_SHARES - 1, 1, TP_MAX_WORDS, work, (tp_answer){TP_SHARE_COUNT, 0});
     sample_zeros(TP_MAX_SHARES + 1, 1, TP_MAX_WORDS, work, (tp_answer){TP_SHARE_COUNT, 0});
     sample_zeros(2, TP_MIN_BITS - 1, TP_MAX_WORDS, work, (tp_answer){TP_STRING_LENGTH, 0});
     sample_zeros(2, TP_MAX_BITS + 1, TP_MAX_WORDS, work, (tp_answer){TP_STRING_LENGTH, 0});
+    polynomial_unfit(TP_MIN_COEFFICIENTS - 1);
+    polynomial_unfit(TP_MAX_COEFFICIENTS + 1);
 }
 
 /* The text of a file of so many zero bytes ends in this line. With one byte, or one word, less of room the call is refused. */

@@ -77,8 +77,7 @@ impl Comparison {
     /// The shares of each accepted coefficient open to the weight difference of its opened strings. A sample has one.
     fn open_coefficients(&mut self, call: &Call, outcome: &Outcome) {
         let [n, k, q] = <[u64; 3]>::try_from(&call.numbers[..3]).expect("n, k and q");
-        let lists = [&call.lists[0], &call.lists[1], outcome.list(3)].map(|list| list.chunks_exact(n as usize));
-        let [x, y, shares] = lists;
+        let [x, y, shares] = [&call.lists[0], &call.lists[1], outcome.list(3)].map(|list| list.chunks_exact(n as usize));
         for ((x, y), shares) in x.zip(y).zip(shares) {
             self.open_sample(call, [n, k, q], [x, y], shares);
         }

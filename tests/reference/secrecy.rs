@@ -75,7 +75,8 @@ fn is_even(name: &str, make: Maker, [bits, coefficients]: [usize; 2], n: usize, 
             break;
         }
     }
-    println!("  {name} n {n} q {q}: {each} times each, whichever share is left out, for each of {} inputs", 1 << input.len());
+    let share = if coefficients > 1 { "share of each coefficient" } else { "share" };
+    println!("  {name} n {n} q {q}: {each} times each, whichever {share} is left out, for each of {} inputs", 1 << input.len());
     true
 }
 
@@ -91,7 +92,8 @@ fn all_shares_tell() -> bool {
         }
     }
     let right = spreads.len() == 9 && spreads.values().all(|values| values.len() == 1);
-    println!("  tp_sample_polynomial k 1 m 2 n {n} q {q}, no share left out: {} spreads, one for each pair of samples", spreads.len());
+    let judgement = if right { ", one for each pair of samples" } else { ", which is wrong" };
+    println!("  tp_sample_polynomial k 1 m 2 n {n} q {q}, no share left out: {} spreads{judgement}", spreads.len());
     right
 }
 
