@@ -90,8 +90,8 @@ pub fn write_sample(
     ensures { λ _. ⌜ (now (out .exit) ≡ overwrite (now (out .entry)) 0 (sampleShares n k q (now (x .entry)) (now (y .entry)) (now (words .entry)))) × (now (work .exit) ≡ overwrite (now (work .entry)) 0 (replicate (workLength n k) 0)) ⌝ }
 {
     let half = k * (n * (n - 1));
-    write_rows(x, k, q, words, 0, work, 0);
-    write_rows(y, k, q, words, half, work, k * n);
+    write_rows(&x[..], k, q, &words[..], 0, work, 0);
+    write_rows(&y[..], k, q, &words[..], half, work, k * n);
     write_shares(work, n, k, q, out);
     buffers::zero(work, 2 * k * n);
 }
@@ -144,6 +144,6 @@ pub fn sample(
     if let Checked::Failed(r) = check_sample(n, k, q, x, y, words, out.len(), work.len()) {
         return Answer::Refused(r);
     }
-    write_sample(n, k, q, x, y, words, out, work);
+    write_sample(n, k, q, &x[..], &y[..], &words[..], out, work);
     Answer::Done(2 * k * (n * (n - 1)))
 }

@@ -61,11 +61,11 @@ mul-t11 c = omega (arith, sizes (c .before .before .before .before .before .befo
 sub-t12 : tie.Need-sub-t12
 sub-t12 c = omega (arith, pair (c .before .before .before .before .before .before .before) .two)
 
-mul-t18 : tie.Need-mul-t18
-mul-t18 c = omega (arith, sizes (c .before .before .before .before .before .before .before) .per)
+mul-t24 : tie.Need-mul-t24
+mul-t24 c = omega (arith, sizes (c .before .before .before .before .before .before .before) .per)
 
-mul-t19 : tie.Need-mul-t19
-mul-t19 c = omega (arith, sizes (c .before .before .before .before .before .before .before) .words)
+mul-t25 : tie.Need-mul-t25
+mul-t25 c = omega (arith, sizes (c .before .before .before .before .before .before .before) .words)
 
 same-length : tie.Need-same-length
 same-length c = search needs
@@ -94,8 +94,8 @@ sample-spec =
     write-sample-requires
     mul-t11
     sub-t12
-    mul-t18
-    mul-t19
+    mul-t24
+    mul-t25
     same-length
     same-length-2
     returns-2)
