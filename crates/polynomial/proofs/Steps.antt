@@ -8,12 +8,13 @@ use native.Mathlib.Omega.{arith}
 use lib.ListN.{length, take, drop, replicate, length-replicate}
 use Rattle.buffers.specs.Overwrite.{overwrite}
 use Rattle.buffers.specs.Laws.{length-overwrite, overwrite-again}
-use Rattle.buffers.specs.Positions.{at, table}
-use Rattle.buffers.specs.PositionLaws.{table-list}
+use Rattle.buffers.specs.Positions.{at, table, Same}
+use Rattle.buffers.specs.PositionLaws.{table-list, front-same}
 use Rattle.buffers.specs.Rows.{rows-none, rows-next, rows-length}
 use Rattle.buffers.specs.Blocks.{block, length-block, block-at, part-block, put-block}
 use Rattle.conversion.specs.Arrays.{Drawn}
 use Rattle.sampler.specs.Sampler.{sampleShares, sampleWords}
+use Rattle.sampler.specs.Calls.{shares-front}
 use Rattle.polynomial.specs.Polynomial.{coefficientShares, polynomialShares}
 use Rattle.polynomial.specs.Calls.{length-coefficient}
 
@@ -45,6 +46,16 @@ zeroed-all c before work (suc t) h e = e
 
 -- ---- a coefficient
 
+-- a block, as it is lent
+abbrev part : ℕ → ℕ → List ℕ → List ℕ
+part c t l = take (t * c + c - t * c) (drop (t * c) l)
+
+-- its shares, copied to the front of an array
+pub block-gathered : (n t : ℕ) (x l a : List ℕ) → n ≤ 8 → t * n + n ≤ length x → a ≡ overwrite l 0 (take 8 (part n t x)) → Same n (at a) (at (block n t x))
+block-gathered n t x l a h f e i g =
+    let m = length-block n x t f in
+    front-same l (block n t x) a 8 (e ∙ ap (λ (p : List ℕ). overwrite l 0 (take 8 p)) (part-block n t x)) (omega arith) i (omega arith)
+
 module _ (n k q : ℕ) (x y words : List ℕ) (t : ℕ) where
   -- its shares are a row
   coefficient-row : coefficientShares n k q x y words t ≡ table n (at (coefficientShares n k q x y words t))
@@ -61,15 +72,13 @@ module _ (n k q : ℕ) (x y words : List ℕ) (t : ℕ) where
   unfolding polynomialShares
   coefficients-length before out e h = rows-length before 0 n _ t out e (omega arith)
 
-  abbrev part : ℕ → List ℕ → List ℕ
-  part c l = take (t * c + c - t * c) (drop (t * c) l)
-
-  -- the sample of the parts that are lent, put back
-  pub coefficient-put : (out after : List ℕ) → t * n + n ≤ length out → after ≡ overwrite (part n out) 0 (sampleShares n k q (part n x) (part n y) (part (sampleWords n k) words))
+  -- the sample of arrays with the shares of the blocks in front, put back
+  pub coefficient-put : 2 < q → (a b out after : List ℕ) → t * n + n ≤ length out → Same n (at a) (at (block n t x)) → Same n (at b) (at (block n t y))
+      → after ≡ overwrite (part n t out) 0 (sampleShares n k q a b (part (sampleWords n k) t words))
       → take (t * n) out ++ (after ++ drop (t * n + n - t * n) (drop (t * n) out)) ≡ overwrite out (t * n) (coefficientShares n k q x y words t)
   unfolding coefficientShares
-  coefficient-put out after h e =
-      rw (e, part-block n t x, part-block n t y, part-block (sampleWords n k) t words)
+  coefficient-put large a b out after h f g e =
+      rw (e, part-block (sampleWords n k) t words, shares-front n k q large a (block n t x) b (block n t y) (block (sampleWords n k) t words) f g)
       (put-block n t out (coefficientShares n k q x y words t) h (length-coefficient n k q x y words t))
 
 pub coefficients-none : (n k q : ℕ) (x y words out : List ℕ) → out ≡ overwrite out 0 (polynomialShares n k q 0 x y words)

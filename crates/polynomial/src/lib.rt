@@ -34,16 +34,11 @@ fn write_coefficient(
     let j = i + n;
     let w = t * per;
     let v = w + per;
-    sampler::write_sample(
-        n,
-        k,
-        q,
-        &x[i..j],
-        &y[i..j],
-        &words[w..v],
-        &mut out[i..j],
-        work,
-    );
+    let mut a = [0u16; 8];
+    let mut b = [0u16; 8];
+    buffers::copy_eight(&mut a, &x[i..j]);
+    buffers::copy_eight(&mut b, &y[i..j]);
+    sampler::write_sample(n, k, q, &a, &b, &words[w..v], &mut out[i..j], work);
 }
 
 fn write_coefficients(

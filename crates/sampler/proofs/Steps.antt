@@ -1,5 +1,5 @@
 -- Facts of the code's steps.
-use mathlib.Core.Path.{_≡_, refl, sym, ap, subst, _∙_}
+use mathlib.Core.Path.{_≡_, refl, sym, ap, _∙_}
 use mathlib.Core.List.{List, _++_}
 use Prim.Native.Nat.{ℕ, _+_, _-_, _*_, _≤_, _<_}
 use native.Mathlib.Nat as N
@@ -12,31 +12,22 @@ use Rattle.residue.specs.Laws.{sub-cong}
 use Rattle.residue.specs.Sum.{sum-cong, each-below-append}
 use Rattle.buffers.specs.Overwrite.{overwrite}
 use Rattle.buffers.specs.Laws.{length-overwrite, overwrite-append, overwrite-again, front-below}
-use Rattle.buffers.specs.Positions.{at, table, rows, after, Same, Below}
-use Rattle.buffers.specs.PositionLaws.{after-zero, table-same}
+use Rattle.buffers.specs.Positions.{at, table, rows, after, Below}
+use Rattle.buffers.specs.PositionLaws.{after-zero, after-after, table-same}
 use Rattle.buffers.specs.Rows.{length-rows, rows-at, rows-below}
-use Rattle.checks.specs.Width.{bit, bit-lt}
 use Rattle.conversion.specs.Conversion.{bitsAt, convertBit, bitWords}
-use Rattle.conversion.specs.Laws.{convertBit-local}
 use Rattle.conversion.specs.Arrays.{Drawn}
 use Rattle.sampler.specs.Sampler.{row, stringShare, sampleShare, sampleShares, workLength}
 use Rattle.sampler.specs.Columns.{columnShare}
 
 -- ---- the rows of one string
 
--- a row made from an array with the shares in front
-pub row-done : (q n t : ℕ) (x array : List ℕ) → 2 < q → Same n (at array) (at x) → (start p : ℕ) (words : List ℕ) → p ≡ start + t * bitWords n
-    → table n (convertBit q n (bitsAt (at array) t) (after p (at words))) ≡ table n (row q n (at x) (after start (at words)) t)
+-- the row of bit t, whose words begin at p
+pub row-done : (q n t : ℕ) (x words : List ℕ) (start p : ℕ) → p ≡ start + t * bitWords n
+    → table n (convertBit q n (bitsAt (at x) t) (after p (at words))) ≡ table n (row q n (at x) (after start (at words)) t)
 unfolding row
-row-done q n t x array large h start p words d =
-    table-same n _ _ (convertBit-local q n (bitsAt (at array) t) (bitsAt (at x) t) _ _ (first array) (first x) (λ i l. ap (λ (z : ℕ). bit z t) (h i l)) (λ j l. ap (at words) (omega arith)))
-  where
-    first : (l : List ℕ) → bitsAt (at l) t 0 < q
-    first l = omega (arith, bit-lt (at l 0) t)
-
--- the rows of n shares
-pub rows-of : (k q n start : ℕ) (x before work : List ℕ) (w : ℕ → ℕ) → length x ≡ n → work ≡ overwrite before start (rows k (length x) (row q (length x) (at x) w)) → work ≡ overwrite before start (rows k n (row q n (at x) w))
-rows-of k q n start x before work w e = subst (λ (m : ℕ). work ≡ overwrite before start (rows k m (row q m (at x) w))) e
+row-done q n t x words start p d =
+    ap (λ (w : ℕ → ℕ). table n (convertBit q n (bitsAt (at x) t) w)) (ap (λ (p : ℕ). after p (at words)) d ∙ sym (after-after start (t * bitWords n) (at words)))
 
 -- ---- the work area with the rows of both strings
 

@@ -9,7 +9,7 @@ use Rattle.residue.specs.Residue.{reduce, reduceℤ, total, EachBelow}
 use Rattle.residue.specs.Integers.{reduceℤ-minus}
 use Rattle.residue.specs.Sum.{sum-cong, sum-list}
 use Rattle.buffers.specs.Overwrite.{overwrite}
-use Rattle.buffers.specs.Positions.{at}
+use Rattle.buffers.specs.Positions.{at, Same}
 use Rattle.buffers.specs.PositionLaws.{length-table, table-at, table-below, table-same}
 use Rattle.checks.specs.Checks.{Check, Outcome, Verdict, accepted, refused, verdict, checked, roomChecks, bufferChecks}
 use Rattle.checks.specs.Laws.{Hold, accepted-holds, settled-refuses, words-front}
@@ -28,6 +28,12 @@ length-shares n k q x y words = length-table n (sampleShare q n k (at x) (at y) 
 pub shares-at : (n k q : ℕ) (x y words : List ℕ) (i : ℕ) → i < n → at (sampleShares n k q x y words) i ≡ sampleShare q n k (at x) (at y) (at words) i
 unfolding sampleShares
 shares-at n k q x y words = table-at n (sampleShare q n k (at x) (at y) (at words))
+
+-- of lists with the same shares in front
+pub shares-front : (n k q : ℕ) → 2 < q → (x x′ y y′ words : List ℕ) → Same n (at x) (at x′) → Same n (at y) (at y′) → sampleShares n k q x y words ≡ sampleShares n k q x′ y′ words
+unfolding sampleShares
+shares-front n k q large x x′ y y′ words e d =
+    table-same n _ _ (share-local q n large k (at x) (at x′) (at y) (at y′) (at words) (at words) e d (λ j l. refl))
 
 -- ---- the written steps, on strings that pass their checks
 
@@ -54,7 +60,7 @@ module _ {n k q : ℕ} {x y : List ℕ} (P : SharedPair n k q x y) (words : List
   pub shares-words : (words′ : List ℕ) → take (sampleWords n k) words ≡ take (sampleWords n k) words′ → sampleShares n k q x y words ≡ sampleShares n k q x y words′
   unfolding sampleShares
   shares-words words′ e =
-      table-same n _ _ (share-local q n (pair-large P) k (at x) (at y) (at words) (at words′) (λ j l. sym (getD-take (sampleWords n k) words j 0 l) ∙ ap (λ (l : List ℕ). at l j) e ∙ getD-take (sampleWords n k) words′ j 0 l))
+      table-same n _ _ (share-local q n (pair-large P) k (at x) (at x) (at y) (at y) (at words) (at words′) (λ i l. refl) (λ i l. refl) (λ j l. sym (getD-take (sampleWords n k) words j 0 l) ∙ ap (λ (l : List ℕ). at l j) e ∙ getD-take (sampleWords n k) words′ j 0 l))
 
 -- ---- a call that passes every check
 

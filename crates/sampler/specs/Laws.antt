@@ -33,16 +33,17 @@ module _ (q n : ℕ) (large : 2 < q) where
   unfolding sampleShare
   share-lt k x y w i = add-lt q positive _ _
 
-  -- ---- the words: a string reads its first k × n(n − 1), and a sample its first W
+  -- ---- n shares of each string matter, and the words: a string reads its first k × n(n − 1), and a sample its first W
 
-  stringShare-local : (k : ℕ) (x w v : ℕ → ℕ) → Same (k * bitWords n) w v → Same n (stringShare q n k x w) (stringShare q n k x v)
+  stringShare-local : (k : ℕ) (x x′ w w′ : ℕ → ℕ) → Same n x x′ → Same (k * bitWords n) w w′ → Same n (stringShare q n k x w) (stringShare q n k x′ w′)
   unfolding stringShare row
-  stringShare-local k x w v s i l = sum-cong q k _ _ (λ t h. convertBit-local q n (bitsAt x t) (bitsAt x t) _ _ (first-lt x t) (first-lt x t) (λ j m. refl) (λ j m. s _ (digits-lt h m)) i l)
+  stringShare-local k x x′ w w′ e s i l =
+      sum-cong q k _ _ (λ t h. convertBit-local q n (bitsAt x t) (bitsAt x′ t) _ _ (first-lt x t) (first-lt x′ t) (λ j m. ap (λ (z : ℕ). bit z t) (e j m)) (λ j m. s _ (digits-lt h m)) i l)
 
-  pub share-local : (k : ℕ) (x y w v : ℕ → ℕ) → Same (sampleWords n k) w v → Same n (sampleShare q n k x y w) (sampleShare q n k x y v)
+  pub share-local : (k : ℕ) (x x′ y y′ w w′ : ℕ → ℕ) → Same n x x′ → Same n y y′ → Same (sampleWords n k) w w′ → Same n (sampleShare q n k x y w) (sampleShare q n k x′ y′ w′)
   unfolding sampleShare
-  share-local k x y w v s i l =
-      ap₂ (sub q) (stringShare-local k x w v (λ j m. s j (omega arith)) i l) (stringShare-local k y _ _ (λ j m. s (k * bitWords n + j) (omega arith)) i l)
+  share-local k x x′ y y′ w w′ e d s i l =
+      ap₂ (sub q) (stringShare-local k x x′ w w′ e (λ j m. s j (omega arith)) i l) (stringShare-local k y y′ _ _ d (λ j m. s (k * bitWords n + j) (omega arith)) i l)
 
   -- ---- the sum
 

@@ -21,9 +21,10 @@ ghost use Rattle.sampler.specs.Secrecy.{Secrecy};
 pub const MOST_WORDS: usize = 1792;
 
 // The rows of a string's k bits, one of n shares for each bit, at `to` in the work area and behind. Each bit takes the next n(n - 1) words from
-// `start` on.
+// `start` on. The string's shares stand in front of the array.
 fn write_rows(
-    shares: &[u16],
+    shares: &[u16; 8],
+    n: usize,
     k: usize,
     q: Word,
     words: &[Word],
@@ -31,15 +32,12 @@ fn write_rows(
     work: &mut [Word],
     to: usize,
 )
-    requires { ⌜ (2 ≤ length (now shares)) × (length (now shares) ≤ 8) × (k ≤ 16) × Modulus q × Drawn q start (k * bitWords (length (now shares))) (now words) × (to + k * length (now shares) ≤ length (now work)) ⌝ }
-    ensures { λ _. ⌜ now (work .exit) ≡ overwrite (now (work .entry)) to (rows k (length (now (shares .entry))) (row q (length (now (shares .entry))) (at (now (shares .entry))) (after start (at (now (words .entry)))))) ⌝ }
+    requires { ⌜ (2 ≤ n) × (n ≤ 8) × (k ≤ 16) × Modulus q × Drawn q start (k * bitWords n) (now words) × (to + k * n ≤ length (now work)) ⌝ }
+    ensures { λ _. ⌜ now (work .exit) ≡ overwrite (now (work .entry)) to (rows k n (row q n (at (now (shares .entry))) (after start (at (now (words .entry)))))) ⌝ }
 {
-    let n = shares.len();
-    let mut array = [0u16; 8];
-    buffers::copy_eight(&mut array, shares);
     for bit in 0..k {
         conversion::convert_at(
-            &array,
+            shares,
             bit,
             n,
             q,
@@ -75,23 +73,25 @@ fn write_shares(work: &[Word], n: usize, k: usize, q: Word, out: &mut [Word])
     }
 }
 
-// The sample. The rows stand in the work area until they are summed, and are then overwritten by zeros.
+// The sample of the strings whose shares stand in front of x and y. The rows stand in the work area until they are summed, and are then
+// overwritten by zeros.
+// `&words[..]`: the words' address and length are then copied one by one, as they were stored, which is faster than both at once.
 pub fn write_sample(
     n: usize,
     k: usize,
     q: Word,
-    x: &[u16],
-    y: &[u16],
+    x: &[u16; 8],
+    y: &[u16; 8],
     words: &[Word],
     out: &mut [Word],
     work: &mut [Word],
 )
-    requires { ⌜ (2 ≤ n) × (n ≤ 8) × (k ≤ 16) × Modulus q × (length (now x) ≡ n) × (length (now y) ≡ n) × Drawn q 0 (sampleWords n k) (now words) × (n ≤ length (now out)) × (workLength n k ≤ length (now work)) ⌝ }
+    requires { ⌜ (2 ≤ n) × (n ≤ 8) × (k ≤ 16) × Modulus q × Drawn q 0 (sampleWords n k) (now words) × (n ≤ length (now out)) × (workLength n k ≤ length (now work)) ⌝ }
     ensures { λ _. ⌜ (now (out .exit) ≡ overwrite (now (out .entry)) 0 (sampleShares n k q (now (x .entry)) (now (y .entry)) (now (words .entry)))) × (now (work .exit) ≡ overwrite (now (work .entry)) 0 (replicate (workLength n k) 0)) ⌝ }
 {
     let half = k * (n * (n - 1));
-    write_rows(&x[..], k, q, &words[..], 0, work, 0);
-    write_rows(&y[..], k, q, &words[..], half, work, k * n);
+    write_rows(x, n, k, q, &words[..], 0, work, 0);
+    write_rows(y, n, k, q, &words[..], half, work, k * n);
     write_shares(work, n, k, q, out);
     buffers::zero(work, 2 * k * n);
 }
@@ -144,6 +144,10 @@ pub fn sample(
     if let Checked::Failed(r) = check_sample(n, k, q, x, y, words, out.len(), work.len()) {
         return Answer::Refused(r);
     }
-    write_sample(n, k, q, &x[..], &y[..], &words[..], out, work);
+    let mut a = [0u16; 8];
+    let mut b = [0u16; 8];
+    buffers::copy_eight(&mut a, x);
+    buffers::copy_eight(&mut b, y);
+    write_sample(n, k, q, &a, &b, &words[..], out, work);
     Answer::Done(2 * k * (n * (n - 1)))
 }

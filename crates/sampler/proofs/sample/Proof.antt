@@ -1,19 +1,29 @@
 -- The checks' verdict; a refusal comes before anything is written, and behind the checks all is ready for the sample.
-use mathlib.Core.Path.{ap₂, _∙_}
+use mathlib.Core.Path.{_≡_, ap, ap₂, _∙_}
 use native.Mathlib.Omega.{arith}
 use lib.ListN.{length}
 use borrow.Author.Needs.{needs}
+use Rattle.buffers.specs.Overwrite.{overwrite}
+use Rattle.buffers.specs.PositionLaws.{front-same}
 use Rattle.checks.specs.declared.Answer.the-variants.{Done}
 use Rattle.checks.specs.Answers.{outcome}
 use Rattle.checks.specs.Laws.{Hold, checks-hold, settles-accepted, settles-refused}
-use Rattle.sampler.specs.Sampler.{sampleWords, sampleChecks, both, sampled}
+use Rattle.sampler.specs.Sampler.{sampleWords, sampleShares, sampleChecks, both, sampled}
 use Rattle.sampler.specs.Accepted.{Small, small, SharedPair, pair-large, call-pair, call-drawn, call-room}
+use Rattle.sampler.specs.Calls.{shares-front}
 use Rattle.sampler.specs.SecrecyProof.{secrecy}
 use Rattle.sampler.proofs.sample.Statement.{statement}
 use Rattle.sampler.proofs.sample.Tie as tie
 
+-- the places where the call begins, where the checks have passed, and where the sample stands
 abbrev start : tie.After-enum-told → tie.Start
 start c = c .before .before .before .before .before .before .before .before
+
+abbrev passed : tie.After-slice-known4 → tie.After-enum-told
+passed c = c .before .before .before .before .before .before .before .before .before .before .before .before .before .before .before
+
+abbrev sampled-there : tie.After-slice-known4 → tie.After-write-sample
+sampled-there c = c .before .before .before .before
 
 holds : (c : tie.After-enum-told) → let a = start c .args in Hold (sampleChecks (a .n) (a .k) (a .q) (a .x .now) (a .y .now) (a .words .now) (length (a .out .now)) (length (a .work .now)))
 holds c = checks-hold _ _ (c .before .before .check-sample .ensures) (c .enum-told .given .1)
@@ -23,6 +33,16 @@ pair c = let a = start c .args in call-pair _ _ _ _ _ _ (a .out .now) (a .work .
 
 sizes : (c : tie.After-enum-told) → let a = start c .args in Small (a .n) (a .k)
 sizes c = small _ _ (pair c .eight) (pair c .sixteen)
+
+-- the shares stand in front of the arrays
+gathered : (c : tie.After-slice-known4) → let a = start (passed c) .args in sampled-there c .write-sample .last .1 .1 .1 .1 .1 .1 .0 ≡ overwrite (a .out .now) 0 (sampleShares (a .n) (a .k) (a .q) (a .x .now) (a .y .now) (a .words .now))
+gathered c =
+    let a = start (passed c) .args in
+    let p = pair (passed c) in
+    let x = front-same _ (a .x .now) _ 8 (c .before .before .before .before .before .before .before .before .before .before .before .before .before .copy-eight .ensures) (omega (arith, p .x-count, p .eight)) in
+    let y = front-same _ (a .y .now) _ 8 (c .before .before .before .before .before .before .before .before .before .before .copy-eight2 .ensures) (omega (arith, p .y-count, p .eight)) in
+    sampled-there c .write-sample .ensures .0
+    ∙ ap (overwrite (a .out .now) 0) (shares-front (a .n) (a .k) (a .q) (pair-large p) _ (a .x .now) _ (a .y .now) (a .words .now) (λ i l. x i (omega (arith, p .x-count))) (λ i l. y i (omega (arith, p .y-count))))
 
 check-sample-requires : tie.Need-check-sample-requires
 check-sample-requires c κs = search needs
@@ -37,35 +57,37 @@ returns c = (settles-refused _ _ (c .before .before .before .check-sample .ensur
 enum-told : tie.Need-enum-told
 enum-told c = search needs
 
+slice-aggregate-copy-eight : tie.Need-slice-aggregate-copy-eight
+slice-aggregate-copy-eight c = search needs
+
+copy-eight-requires : tie.Need-copy-eight-requires
+copy-eight-requires c κs = search needs
+
+slice-aggregate-copy-eight-2 : tie.Need-slice-aggregate-copy-eight-2
+slice-aggregate-copy-eight-2 c = search needs
+
+copy-eight-requires-2 : tie.Need-copy-eight-requires-2
+copy-eight-requires-2 c κs = search needs
+
 write-sample-requires : tie.Need-write-sample-requires
 write-sample-requires c κs =
-    let s = start (c .before .before) .args in
-    let h = holds (c .before .before) in
-    let p = pair (c .before .before) in
-    let d = call-drawn _ _ _ _ _ _ (s .out .now) (s .work .now) h in
-    let r = call-room _ _ _ _ _ _ (s .out .now) (s .work .now) h in (
-      omega (arith, p .two),
-      p .eight,
-      p .sixteen,
-      record { large = pair-large p; small = omega arith },
-      p .x-count,
-      p .y-count,
-      d,
-      r .0,
-      r .1,
-    )
+    let t = c .before .before .before .before .before .before .before .before .before .before in
+    let a = start t .args in
+    let p = pair t in
+    let r = call-room _ _ _ _ _ _ (a .out .now) (a .work .now) (holds t) in
+    (p .two, p .eight, p .sixteen, record { large = pair-large p; small = omega arith }, call-drawn _ _ _ _ _ _ (a .out .now) (a .work .now) (holds t), r .0, r .1)
 
-mul-t11 : tie.Need-mul-t11
-mul-t11 c = omega (arith, sizes (c .before .before .before .before .before .before .before) .bits)
+mul-t13 : tie.Need-mul-t13
+mul-t13 c = omega (arith, sizes (passed c) .bits)
 
-sub-t12 : tie.Need-sub-t12
-sub-t12 c = omega (arith, pair (c .before .before .before .before .before .before .before) .two)
+sub-t14 : tie.Need-sub-t14
+sub-t14 c = omega (arith, pair (passed c) .two)
 
-mul-t24 : tie.Need-mul-t24
-mul-t24 c = omega (arith, sizes (c .before .before .before .before .before .before .before) .per)
+mul-t28 : tie.Need-mul-t28
+mul-t28 c = omega (arith, sizes (passed c) .per)
 
-mul-t25 : tie.Need-mul-t25
-mul-t25 c = omega (arith, sizes (c .before .before .before .before .before .before .before) .words)
+mul-t29 : tie.Need-mul-t29
+mul-t29 c = omega (arith, sizes (passed c) .words)
 
 same-length : tie.Need-same-length
 same-length c = search needs
@@ -76,10 +98,11 @@ same-length-2 c = search needs
 returns-2 : tie.Need-returns-2
 unfolding sampled
 returns-2 c =
-    let a = c .before .before .before .before .before .before .before .before .before .before .before .before .before .before .before .args in
-    let e = c .before .before .before .before .write-sample .ensures in (
-      ap₂ (λ o w. outcome (Done (sampleWords (a .n) (a .k))) (both o w)) (e .0) (e .1)
-          ∙ settles-accepted _ _ (c .before .before .before .before .before .before .before .before .before .check-sample .ensures) (sampleWords (a .n) (a .k)) (both (a .out .now) (a .work .now)) _ (c .before .before .before .before .before .before .before .enum-told .given .1),
+    let d = passed c in
+    let a = start d .args in
+    let count = sampleWords (a .n) (a .k) in (
+      ap₂ (λ o w. outcome (Done count) (both o w)) (gathered c) (sampled-there c .write-sample .ensures .1)
+          ∙ settles-accepted _ _ (d .before .before .check-sample .ensures) count (both (a .out .now) (a .work .now)) _ (d .enum-told .given .1),
       secrecy _ _ _,
     )
 
@@ -91,11 +114,15 @@ sample-spec =
     enum-known-r
     returns
     enum-told
+    slice-aggregate-copy-eight
+    copy-eight-requires
+    slice-aggregate-copy-eight-2
+    copy-eight-requires-2
     write-sample-requires
-    mul-t11
-    sub-t12
-    mul-t24
-    mul-t25
+    mul-t13
+    sub-t14
+    mul-t28
+    mul-t29
     same-length
     same-length-2
     returns-2)

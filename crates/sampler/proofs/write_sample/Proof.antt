@@ -4,55 +4,42 @@ use Prim.Native.Nat.{_*_}
 use native.Mathlib.Omega.{arith}
 use borrow.Author.Needs.{needs}
 use Rattle.buffers.specs.Overwrite.{overwrite}
-use Rattle.buffers.specs.Positions.{at, rows, after}
 use Rattle.conversion.specs.Conversion.{bitWords}
 use Rattle.conversion.specs.Arrays.{drawn-part}
-use Rattle.sampler.specs.Sampler.{row}
-use Rattle.sampler.specs.Accepted.{Small, small}
+use Rattle.sampler.specs.Accepted.{small}
 use Rattle.sampler.specs.Laws.{row-lt}
-use Rattle.sampler.proofs.Steps.{rows-of, filled-drawn, filled-zeroed, columns-shares}
+use Rattle.sampler.proofs.Steps.{filled-drawn, filled-zeroed, columns-shares}
 use Rattle.sampler.proofs.write_sample.Statement.{statement}
 use Rattle.sampler.proofs.write_sample.Tie as tie
-
-sizes : (s : tie.Start) → Small (s .args .n) (s .args .k)
-sizes s = small _ _ (s .pre .1) (s .pre .2)
-
--- the work area after the rows of x, and after those of y
-x-rows : (c : tie.After-write-rows) → let a = c .before .before .before .before .before .before .before .args in c .write-rows .last .1 .1 .1 .1 .1 .0 ≡ overwrite (a .work .now) 0 (rows (a .k) (a .n) (row (a .q) (a .n) (at (a .x .now)) (after 0 (at (a .words .now)))))
-x-rows c = let s = c .before .before .before .before .before .before .before in rows-of _ _ _ _ (s .args .x .now) _ _ _ (s .pre .4) (c .write-rows .ensures)
-
-y-rows : (c : tie.After-write-rows2)
-    → let a = c .before .before .before .before .before .before .before .before .before .before .before .args in c .write-rows2 .last .1 .1 .1 .1 .1 .0 ≡ overwrite (c .before .before .before .before .write-rows .last .1 .1 .1 .1 .1 .0) (a .k * a .n) (rows (a .k) (a .n) (row (a .q) (a .n) (at (a .y .now)) (after (a .k * bitWords (a .n)) (at (a .words .now)))))
-y-rows c = let s = c .before .before .before .before .before .before .before .before .before .before .before in rows-of _ _ _ _ (s .args .y .now) _ _ _ (s .pre .5) (c .write-rows2 .ensures)
 
 sub-half : tie.Need-sub-half
 sub-half c = search needs
 
 mul-half : tie.Need-mul-half
-mul-half c = omega (arith, sizes (c .before .before .before .before .before))
+mul-half c = let s = c .before .before .before in omega (arith, small _ _ (s .pre .1) (s .pre .2) .per)
 
 mul-half-2 : tie.Need-mul-half-2
-mul-half-2 c = omega (arith, c .before .before .before .before .before .pre .6 .room)
+mul-half-2 c = search needs
 
 write-rows-requires : tie.Need-write-rows-requires
 write-rows-requires c κs =
-    let s = c .before .before .before .before .before .before in
-    rw (s .pre .4) (s .pre .0, s .pre .1, s .pre .2, s .pre .3, drawn-part 0 0 _ refl (omega arith) (s .pre .6), omega arith)
+    let s = c .before .before .before .before in
+    (s .pre .0, s .pre .1, s .pre .2, s .pre .3, drawn-part 0 0 _ refl (omega arith) (s .pre .4), omega arith)
 
 mul-write-rows : tie.Need-mul-write-rows
 mul-write-rows c = search needs
 
 write-rows-requires-2 : tie.Need-write-rows-requires-2
 write-rows-requires-2 c κs =
-    let s = c .before .before .before .before .before .before .before .before .before .before in
+    let s = c .before .before .before .before .before .before .before .before in
     let w = s .args .k * bitWords (s .args .n) in
-    rw (s .pre .5) (s .pre .0, s .pre .1, s .pre .2, s .pre .3, drawn-part w w w (omega arith) (omega arith) (s .pre .6), search needs)
+    (s .pre .0, s .pre .1, s .pre .2, s .pre .3, drawn-part w w w (omega arith) (omega arith) (s .pre .4), search needs)
 
 write-shares-requires : tie.Need-write-shares-requires
 write-shares-requires c κs =
-    let s = c .before .before .before .before .before .before .before .before .before .before .before .before .before .before .before in
+    let s = c .before .before .before .before .before .before .before .before .before .before .before .before .before in
     let q = s .pre .3 in
-    (q, filled-drawn _ _ _ _ _ _ _ (x-rows (c .before .before .before .before .before .before .before .before)) (y-rows (c .before .before .before .before)) _ (s .pre .8) (λ t. row-lt _ _ (q .large) _ _ t) (λ t. row-lt _ _ (q .large) _ _ t), search needs)
+    (q, filled-drawn _ _ _ _ _ _ _ (c .before .before .before .before .before .before .before .before .write-rows .ensures) (c .before .before .before .before .write-rows2 .ensures) _ (s .pre .6) (λ t. row-lt _ _ (q .large) _ _ t) (λ t. row-lt _ _ (q .large) _ _ t), search needs)
 
 mul-zero : tie.Need-mul-zero
 mul-zero c = search needs
@@ -71,9 +58,9 @@ same-length-2 c = search needs
 
 returns : tie.Need-returns
 returns c =
-    let e = x-rows (c .before .before .before .before .before .before .before .before .before .before .before .before .before .before .before) in
-    let d = y-rows (c .before .before .before .before .before .before .before .before .before .before .before) in
-    (c .before .before .before .before .before .before .write-shares .ensures ∙ ap (overwrite _ 0) (columns-shares _ _ _ _ _ _ _ _ _ e d), c .before .before .zero .ensures ∙ filled-zeroed _ _ _ _ _ _ _ e d)
+    let d = c .before .before .before .before .before .before .before .before .before .before .before in
+    let e = d .before .before .before .before .write-rows .ensures in
+    (c .before .before .before .before .before .before .write-shares .ensures ∙ ap (overwrite _ 0) (columns-shares _ _ _ _ _ _ _ _ _ e (d .write-rows2 .ensures)), c .before .before .zero .ensures ∙ filled-zeroed _ _ _ _ _ _ _ e (d .write-rows2 .ensures))
 
 pub write-sample-spec : {M : Type 1} → statement M
 write-sample-spec =
