@@ -1,21 +1,21 @@
 -- Facts of the code's steps.
-use mathlib.Core.Path.{_≡_, refl, sym, ap, subst, _∙_}
+use mathlib.Core.Path.{_≡_, refl, sym, ap, _∙_}
 use mathlib.Core.List.{List}
 use Prim.Native.Nat.{ℕ, zero, suc, _+_, _-_, _*_, _≤_, _<_}
 use native.Mathlib.Nat as N
 use native.Mathlib.Omega.{arith}
-use lib.ListN.{length, set, replicate, take, drop, length-set, length-take, length-drop}
+use lib.ListN.{length, set, replicate, length-set}
 use lib.Seq.{getD-set-other}
 use Rattle.residue.specs.Residue.{sub, neg, add, sum, cswapSub}
 use Rattle.residue.specs.Laws.{reduce-small, reduce-lt, reduce-add, add-zero, add-comm, add-assoc, add-lt, neg-sub, sub-zero}
 use Rattle.residue.specs.Sum.{running-none, running-next, running-all, sum-last, sum-lt}
 use Rattle.buffers.specs.Positions.{at, table, after, Same, Below}
-use Rattle.buffers.specs.PositionLaws.{table-same, after-zero, after-after, part-after, set-agrees}
+use Rattle.buffers.specs.PositionLaws.{table-same, after-after, set-agrees}
 use Rattle.checks.specs.Width.{bit-lt, bit-lowest}
 use Rattle.conversion.specs.Conversion.{bitsAt, pairs, extend, lessTwice, xorBit, xorShare, convert, refresh, convertBit, bitShares}
 use Rattle.conversion.specs.ZeroSharing.{zeroSharing, refresh-adds, refresh-cong}
 use Rattle.conversion.specs.Laws.{lessTwice-zero, lessTwice-one, extend-below, extend-from, xorShare-cong, convert-reduced, convertBit-local}
-use Rattle.conversion.specs.Arrays.{Holds, Drawn}
+use Rattle.conversion.specs.Arrays.{Holds}
 
 -- ---- a difference, less twice its product with a bit
 
@@ -110,14 +110,6 @@ module _ (q : ℕ) (b w : ℕ → ℕ) where
   pub bit-done : (n : ℕ) (a : List ℕ) (r : ℕ → ℕ) → b 0 < q → r ≡ after (pairs n) w → Holds n (convert q n b w) a → table n (refresh q n r (at a)) ≡ table n (convertBit q n b w)
   unfolding convertBit
   bit-done n a r h e A = rw e (table-same n _ _ (refresh-cong q n (after (pairs n) w) (at a) (convert q n b w) (λ t l. convert-reduced q n b w h t) (A .same)))
-
--- the words from `start` on, as a list of their own
-pub drawn-behind : {q count : ℕ} (start : ℕ) (words : List ℕ) → Drawn q start count words → Drawn q 0 count (take (length words - start) (drop start words))
-drawn-behind {q} {count} start words d =
-    record {
-      room = omega (arith, d .room, length-drop start words, length-take (length words - start) (drop start words));
-      below = subst (Below q count) (sym (after-zero _ ∙ part-after start words)) (d .below);
-    }
 
 -- ---- the loops of step 3
 

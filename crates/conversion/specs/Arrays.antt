@@ -1,14 +1,15 @@
 -- What the functions below the call ask of their arguments, and what their arrays hold.
-use mathlib.Core.Path.{_≡_, ap}
+use mathlib.Core.Path.{_≡_, sym, ap, subst, _∙_}
 use mathlib.Core.List.{List}
-use Prim.Native.Nat.{ℕ, _+_, _^_, _≤_, _<_}
+use Prim.Native.Nat.{ℕ, _+_, _-_, _^_, _≤_, _<_}
 use native.Mathlib.Nat as N
 use native.Mathlib.Omega.{arith}
 use borrow.Author.Tests.{leb-true, le-leb}
-use lib.ListN.{length, take}
+use lib.ListN.{length, take, drop, length-take, length-drop}
 use lib.Seq.{getD-take, length-take-le}
 use Rattle.residue.specs.Residue.{EachBelow}
 use Rattle.buffers.specs.Positions.{at, after, Same, Below}
+use Rattle.buffers.specs.PositionLaws.{after-zero, part-after}
 use Rattle.checks.specs.Checks.{isNone, wordChecks}
 use Rattle.checks.specs.Laws.{Hold, none-each-below, each-below-none}
 use Rattle.secrecy.specs.Secrecy.{Full}
@@ -32,6 +33,14 @@ pub record Modulus (q : ℕ) : Type 0 where
 pub drawn-part : {q start count : ℕ} {words : List ℕ} (s skipped n : ℕ) → s ≡ start + skipped → skipped + n ≤ count → Drawn q start count words → Drawn q s n words
 drawn-part {start = start} s skipped n e h d =
     record { room = omega (arith, d .room); below = λ i l. let k : s + i ≡ start + (skipped + i) = omega arith in rw k (d .below (skipped + i) (omega arith)) }
+
+-- a list that is lent from `start` on
+pub drawn-behind : {q count : ℕ} (start : ℕ) (words : List ℕ) → Drawn q start count words → Drawn q 0 count (take (length words - start) (drop start words))
+drawn-behind {q} {count} start words d =
+    record {
+      room = omega (arith, d .room, length-drop start words, length-take (length words - start) (drop start words));
+      below = subst (Below q count) (sym (after-zero _ ∙ part-after start words)) (d .below);
+    }
 
 -- words that pass checks 8 and 9, and the reverse
 pub words-drawn : (q count : ℕ) (words : List ℕ) → Hold (wordChecks count q words) → Drawn q 0 count words

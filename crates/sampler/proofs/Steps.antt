@@ -5,7 +5,7 @@ use Prim.Native.Nat.{ℕ, _+_, _-_, _*_, _≤_, _<_}
 use native.Mathlib.Nat as N
 use native.Mathlib.Omega.{arith}
 use lib.Arith.{digits-lt}
-use lib.ListN.{length, replicate, length-append, length-replicate, List·getD-append}
+use lib.ListN.{length, take, drop, replicate, length-append, length-replicate, List·getD-append}
 use lib.Seq.{getD-append-add}
 use Rattle.residue.specs.Residue.{EachBelow}
 use Rattle.residue.specs.Laws.{sub-cong}
@@ -13,21 +13,17 @@ use Rattle.residue.specs.Sum.{sum-cong, each-below-append}
 use Rattle.buffers.specs.Overwrite.{overwrite}
 use Rattle.buffers.specs.Laws.{length-overwrite, overwrite-append, overwrite-again, front-below}
 use Rattle.buffers.specs.Positions.{at, table, rows, after, Below}
-use Rattle.buffers.specs.PositionLaws.{after-zero, after-after, table-same}
+use Rattle.buffers.specs.PositionLaws.{part-after, table-same}
 use Rattle.buffers.specs.Rows.{length-rows, rows-at, rows-below}
-use Rattle.conversion.specs.Conversion.{bitsAt, convertBit, bitWords}
+use Rattle.conversion.specs.Conversion.{bitWords}
 use Rattle.conversion.specs.Arrays.{Drawn}
 use Rattle.sampler.specs.Sampler.{row, stringShare, sampleShare, sampleShares, workLength}
 use Rattle.sampler.specs.Columns.{columnShare}
 
--- ---- the rows of one string
-
--- the row of bit t, whose words begin at p
-pub row-done : (q n t : ℕ) (x words : List ℕ) (start p : ℕ) → p ≡ start + t * bitWords n
-    → table n (convertBit q n (bitsAt (at x) t) (after p (at words))) ≡ table n (row q n (at x) (after start (at words)) t)
-unfolding row
-row-done q n t x words start p d =
-    ap (λ (w : ℕ → ℕ). table n (convertBit q n (bitsAt (at x) t) w)) (ap (λ (p : ℕ). after p (at words)) d ∙ sym (after-after start (t * bitWords n) (at words)))
+-- rows of words that are lent from `start` on
+pub rows-behind : (k q n start to : ℕ) (x words before work : List ℕ) → work ≡ overwrite before to (rows k n (row q n (at x) (at (take (length words - start) (drop start words)))))
+    → work ≡ overwrite before to (rows k n (row q n (at x) (after start (at words))))
+rows-behind k q n start to x words before work e = e ∙ ap (λ (w : ℕ → ℕ). overwrite before to (rows k n (row q n (at x) w))) (part-after start words)
 
 -- ---- the work area with the rows of both strings
 
@@ -95,9 +91,9 @@ module _ (k n : ℕ) (f g : ℕ → ℕ → ℕ) where
         ∙ overwrite-again before both-rows (replicate (workLength n k) 0) (length-replicate (workLength n k) 0 ∙ sym length-both)
 
 -- the columns of both strings' rows sum to the shares
-pub columns-shares : (n k q : ℕ) (x y words before first work : List ℕ) (e : first ≡ overwrite before 0 (rows k n (row q n (at x) (after 0 (at words)))))
+pub columns-shares : (n k q : ℕ) (x y words before first work : List ℕ) (e : first ≡ overwrite before 0 (rows k n (row q n (at x) (at words))))
     (d : work ≡ overwrite first (k * n) (rows k n (row q n (at y) (after (k * bitWords n) (at words)))))
     → table n (columnShare q n k (at work)) ≡ sampleShares n k q x y words
 unfolding sampleShares sampleShare stringShare
 columns-shares n k q x y words before first work e d =
-    table-same n _ _ (λ i l. sub-cong refl (sum-cong q k _ _ (λ t h. filled-first k n _ _ before first work e d t i h l ∙ ap (λ (w : ℕ → ℕ). row q n (at x) w t i) (after-zero (at words)))) (sum-cong q k _ _ (λ t h. filled-second k n _ _ before first work e d t i h l)))
+    table-same n _ _ (λ i l. sub-cong refl (sum-cong q k _ _ (λ t h. filled-first k n _ _ before first work e d t i h l)) (sum-cong q k _ _ (λ t h. filled-second k n _ _ before first work e d t i h l)))

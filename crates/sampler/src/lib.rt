@@ -8,7 +8,7 @@ ghost use mathlib.Core.Path.{_≡_};
 ghost use Prim.Native.Nat.{_+_, _*_, _≤_, _<_};
 ghost use lib.ListN.{length, replicate};
 ghost use Rattle.buffers.specs.Overwrite.{overwrite};
-ghost use Rattle.buffers.specs.Positions.{at, table, rows, after};
+ghost use Rattle.buffers.specs.Positions.{at, table, rows};
 ghost use Rattle.checks.specs.Checks.{checked};
 ghost use Rattle.checks.specs.Answers.{checkedReading, outcome};
 ghost use Rattle.conversion.specs.Conversion.{bitWords};
@@ -20,20 +20,19 @@ ghost use Rattle.sampler.specs.Secrecy.{Secrecy};
 // The most words that a sample takes: 2kn(n - 1) where n = 8 and k = 16.
 pub const MOST_WORDS: usize = 1792;
 
-// The rows of a string's k bits, one of n shares for each bit, at `to` in the work area and behind. Each bit takes the next n(n - 1) words from
-// `start` on. The string's shares stand in front of the array.
+// The rows of a string's k bits, one of n shares for each bit, at `to` in the work area and behind. Each bit takes the next n(n - 1) words.
+// The string's shares stand in front of the array.
 fn write_rows(
     shares: &[u16; 8],
     n: usize,
     k: usize,
     q: Word,
     words: &[Word],
-    start: usize,
     work: &mut [Word],
     to: usize,
 )
-    requires { ⌜ (2 ≤ n) × (n ≤ 8) × (k ≤ 16) × Modulus q × Drawn q start (k * bitWords n) (now words) × (to + k * n ≤ length (now work)) ⌝ }
-    ensures { λ _. ⌜ now (work .exit) ≡ overwrite (now (work .entry)) to (rows k n (row q n (at (now (shares .entry))) (after start (at (now (words .entry)))))) ⌝ }
+    requires { ⌜ (2 ≤ n) × (n ≤ 8) × (k ≤ 16) × Modulus q × Drawn q 0 (k * bitWords n) (now words) × (to + k * n ≤ length (now work)) ⌝ }
+    ensures { λ _. ⌜ now (work .exit) ≡ overwrite (now (work .entry)) to (rows k n (row q n (at (now (shares .entry))) (at (now (words .entry))))) ⌝ }
 {
     for bit in 0..k {
         conversion::convert_at(
@@ -42,7 +41,7 @@ fn write_rows(
             n,
             q,
             words,
-            start + bit * (n * (n - 1)),
+            bit * (n * (n - 1)),
             work,
             to + bit * n,
         );
@@ -90,8 +89,8 @@ pub fn write_sample(
     ensures { λ _. ⌜ (now (out .exit) ≡ overwrite (now (out .entry)) 0 (sampleShares n k q (now (x .entry)) (now (y .entry)) (now (words .entry)))) × (now (work .exit) ≡ overwrite (now (work .entry)) 0 (replicate (workLength n k) 0)) ⌝ }
 {
     let half = k * (n * (n - 1));
-    write_rows(x, n, k, q, &words[..], 0, work, 0);
-    write_rows(y, n, k, q, &words[..], half, work, k * n);
+    write_rows(x, n, k, q, &words[..], work, 0);
+    write_rows(y, n, k, q, &words[half..], work, k * n);
     write_shares(work, n, k, q, out);
     buffers::zero(work, 2 * k * n);
 }

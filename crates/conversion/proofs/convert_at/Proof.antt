@@ -9,8 +9,8 @@ use Rattle.checks.specs.Width.{bit-lt}
 use Rattle.conversion.specs.Conversion.{pairs, bitsAt}
 use Rattle.conversion.specs.Conversion as C
 use Rattle.conversion.specs.Laws.{pairs-twice, pairs-half}
-use Rattle.conversion.specs.Arrays.{Holds, drawn-part}
-use Rattle.conversion.proofs.Steps.{products, holds-below, bit-done, drawn-behind}
+use Rattle.conversion.specs.Arrays.{Holds, drawn-part, drawn-behind}
+use Rattle.conversion.proofs.Steps.{products, holds-below, bit-done}
 use borrow.Author.Needs.{needs}
 use Rattle.conversion.proofs.convert_at.Statement.{statement}
 use Rattle.conversion.proofs.convert_at.Tie as tie

@@ -5,24 +5,23 @@ use native.Mathlib.Omega.{arith}
 use lib.ListN.{length}
 use borrow.Author.Needs.{needs}
 use Rattle.buffers.specs.Overwrite.{overwrite}
-use Rattle.buffers.specs.Positions.{at, rows, after}
+use Rattle.buffers.specs.Positions.{at, rows}
 use Rattle.buffers.specs.Rows.{rows-none, rows-next, rows-all, rows-length}
 use Rattle.buffers.specs.Blocks.{block-fits}
 use Rattle.conversion.specs.Arrays.{drawn-part}
 use Rattle.conversion.specs.Conversion.{bitWords}
 use Rattle.sampler.specs.Sampler.{row}
-use Rattle.sampler.proofs.Steps.{row-done}
 use Rattle.sampler.proofs.write_rows.Statement.{statement}
 use Rattle.sampler.proofs.write_rows.Tie as tie
 
 abbrev Inv-loop : tie.InvT-loop
-Inv-loop shares n k q words start work₀ to bit₀ work bit = (bit ≤ k) × (work ≡ overwrite work₀ to (rows bit n (row q n (at shares) (after start (at words)))))
+Inv-loop shares n k q words work₀ to bit₀ work bit = (bit ≤ k) × (work ≡ overwrite work₀ to (rows bit n (row q n (at shares) (at words))))
 
 abbrev μ-loop : tie.MeasureT-loop
-μ-loop shares n k q words start work₀ to bit₀ work bit = k - bit
+μ-loop shares n k q words work₀ to bit₀ work bit = k - bit
 
 -- the next row has its words and its room
-next-words : (c : tie.In-loop Inv-loop μ-loop) → let a = c .before .before .before .before .args in a .start + (c .before .loop .bit * bitWords (a .n) + bitWords (a .n)) ≤ length (a .words .now)
+next-words : (c : tie.In-loop Inv-loop μ-loop) → let a = c .before .before .before .before .args in c .before .loop .bit * bitWords (a .n) + bitWords (a .n) ≤ length (a .words .now)
 next-words c = let s = c .before .before .before .before in omega (arith, block-fits (bitWords (s .args .n)) (c .loop-test .taken), s .pre .4 .room)
 
 next-row : (c : tie.In-loop Inv-loop μ-loop) → let a = c .before .before .before .before .args in a .to + (c .before .loop .bit * a .n + a .n) ≤ length (a .work .now)
@@ -40,14 +39,11 @@ mul-convert-at c = omega (arith, next-words c)
 mul-convert-at-2 : tie.Need-mul-convert-at-2 Inv-loop μ-loop
 mul-convert-at-2 c = omega (arith, next-words c)
 
-add-convert-at : tie.Need-add-convert-at Inv-loop μ-loop
-add-convert-at c = omega (arith, next-words c)
-
 mul-convert-at-3 : tie.Need-mul-convert-at-3 Inv-loop μ-loop
 mul-convert-at-3 c = omega (arith, next-row (c .before))
 
-add-convert-at-2 : tie.Need-add-convert-at-2 Inv-loop μ-loop
-add-convert-at-2 c = omega (arith, next-row (c .before))
+add-convert-at : tie.Need-add-convert-at Inv-loop μ-loop
+add-convert-at c = omega (arith, next-row (c .before))
 
 convert-at-requires : tie.Need-convert-at-requires Inv-loop μ-loop
 convert-at-requires c κs =
@@ -59,7 +55,7 @@ convert-at-requires c κs =
       s .pre .1,
       omega arith,
       s .pre .3,
-      drawn-part _ (l .bit * w) _ refl (block-fits w (c .before .loop-test .taken)) (s .pre .4),
+      drawn-part _ (l .bit * w) _ (omega arith) (block-fits w (c .before .loop-test .taken)) (s .pre .4),
       omega (arith, rows-length _ _ _ _ _ _ (l .inv .1) (omega arith)),
     )
 
@@ -71,9 +67,8 @@ loop-less c = search needs
 
 loop-again : tie.Need-loop-again Inv-loop μ-loop
 loop-again c =
-    let s = c .before .before .before .before .before .before .before .before in
     let l = c .before .before .before .before .before .loop in
-    (omega arith, c .before .before .convert-at .ensures ∙ rows-next _ _ _ _ _ _ _ (l .inv .1) (row-done _ _ (l .bit) (s .args .shares .now) (s .args .words .now) (s .args .start) _ refl))
+    (omega arith, c .before .before .convert-at .ensures ∙ rows-next _ _ _ _ _ _ _ (l .inv .1) (unfold row in refl))
 
 same-length : tie.Need-same-length Inv-loop μ-loop
 same-length c =
@@ -94,9 +89,8 @@ write-rows-spec =
     sub-convert-at
     mul-convert-at
     mul-convert-at-2
-    add-convert-at
     mul-convert-at-3
-    add-convert-at-2
+    add-convert-at
     convert-at-requires
     add-bit
     loop-less
