@@ -1,4 +1,4 @@
--- A list in blocks of c numbers, one behind the other.
+-- Laws of a list in blocks of c numbers, one behind the other.
 use mathlib.Core.Path.{_≡_, sym, ap, _∙_}
 use mathlib.Core.List.{List, [], _∷_, _++_, append-assoc, append-nil}
 use Prim.Native.Nat.{ℕ, zero, suc, _+_, _-_, _*_, _≤_, _<_}
@@ -10,12 +10,8 @@ use lib.Seq.{getD-take, getD-drop, length-take-le, take-nil, take-at, drop-at, t
 use Rattle.residue.specs.Residue.{EachBelow}
 use Rattle.residue.specs.Sum.{each-below-take, each-below-drop}
 use Rattle.buffers.specs.Overwrite.{overwrite}
-use Rattle.buffers.specs.Positions.{at, table, rows}
+use Rattle.buffers.specs.Positions.{at, table, rows, block}
 use Rattle.buffers.specs.PositionLaws.{length-table}
-
--- block t, from position t × c on
-unfoldable pub block : ℕ → ℕ → List ℕ → List ℕ
-block c t l = take c (drop (t * c) l)
 
 -- block t of m lies before the end
 pub block-fits : {t m : ℕ} (c : ℕ) → t < m → t * c + c ≤ m * c

@@ -2,9 +2,9 @@
 use mathlib.Core.Path.{_≡_}
 use mathlib.Core.Bool.{cond}
 use mathlib.Core.List.{List, [], _∷_, _++_}
-use Prim.Native.Nat.{ℕ, zero, suc, _+_, _-_, _<_}
+use Prim.Native.Nat.{ℕ, zero, suc, _+_, _-_, _*_, _<_}
 use lib.Dec.{ltb}
-use lib.ListN.{getD}
+use lib.ListN.{getD, take, drop}
 
 -- the number at a position, and 0 behind the end
 abbrev pub at : List ℕ → ℕ → ℕ
@@ -19,6 +19,10 @@ table (suc n) f = f zero ∷ table n (λ i. f (suc i))
 unfoldable pub rows : ℕ → ℕ → (ℕ → ℕ → ℕ) → List ℕ
 rows zero n f = []
 rows (suc k) n f = table n (f zero) ++ rows k n (λ t. f (suc t))
+
+-- block t of a list in blocks of c numbers: those from position t × c on
+unfoldable pub block : ℕ → ℕ → List ℕ → List ℕ
+block c t l = take c (drop (t * c) l)
 
 -- the values from position n on
 abbrev pub after : ℕ → (ℕ → ℕ) → ℕ → ℕ

@@ -8,10 +8,10 @@ use native.Mathlib.Omega.{arith}
 use lib.ListN.{length, take, drop, replicate, length-replicate}
 use Rattle.buffers.specs.Overwrite.{overwrite}
 use Rattle.buffers.specs.Laws.{length-overwrite, overwrite-again}
-use Rattle.buffers.specs.Positions.{at, table, Same}
+use Rattle.buffers.specs.Positions.{at, table, Same, block}
 use Rattle.buffers.specs.PositionLaws.{table-list, front-same}
 use Rattle.buffers.specs.Rows.{rows-none, rows-next, rows-length}
-use Rattle.buffers.specs.Blocks.{block, length-block, block-at, part-block, put-block}
+use Rattle.buffers.specs.Blocks.{length-block, block-at, part-block, put-block}
 use Rattle.conversion.specs.Arrays.{Drawn}
 use Rattle.sampler.specs.Sampler.{sampleShares, sampleWords}
 use Rattle.sampler.specs.Calls.{shares-front}

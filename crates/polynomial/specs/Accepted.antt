@@ -7,7 +7,8 @@ use native.Mathlib.Nat as N
 use native.Mathlib.Omega.{arith}
 use borrow.Author.Tests.{eqb-true, eq-eqb}
 use lib.ListN.{length}
-use Rattle.buffers.specs.Blocks.{block, block-fits, length-block, block-below}
+use Rattle.buffers.specs.Positions.{block}
+use Rattle.buffers.specs.Blocks.{block-fits, length-block, block-below}
 use Rattle.checks.specs.Search.{firstNotBelow}
 use Rattle.checks.specs.Checks.{Check, bufferChecks, isNone}
 use Rattle.checks.specs.Laws.{Hold, hold-front, hold-rest, hold-both, within-true, none-each-below, each-below-none}

@@ -5,10 +5,10 @@ use Prim.Native.Nat.{ℕ, _*_, _<_}
 use lib.ListN.{length, take, drop, replicate}
 use Rattle.residue.specs.Residue.{reduceℤ, EachBelow}
 use Rattle.buffers.specs.Overwrite.{overwrite}
-use Rattle.buffers.specs.Positions.{at, Same}
+use Rattle.buffers.specs.Positions.{at, Same, block}
 use Rattle.buffers.specs.PositionLaws.{table-list}
 use Rattle.buffers.specs.Rows.{length-rows, rows-below, rows-same}
-use Rattle.buffers.specs.Blocks.{block, block-front, block-rows}
+use Rattle.buffers.specs.Blocks.{block-front, block-rows}
 use Rattle.checks.specs.Checks.{Check, Outcome, accepted, verdict, roomChecks}
 use Rattle.checks.specs.Laws.{Hold, words-front}
 use Rattle.masking.specs.Sharing.{xorAll, openedResidue}

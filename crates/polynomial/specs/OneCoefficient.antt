@@ -5,7 +5,8 @@ use Prim.Native.Nat.{ℕ, _*_}
 use native.Mathlib.Nat.{one-mul, le-refl, le-of-eq}
 use lib.ListN.{length, take}
 use lib.Seq.{take-all, take-take}
-use Rattle.buffers.specs.Blocks.{block, block-first}
+use Rattle.buffers.specs.Positions.{block}
+use Rattle.buffers.specs.Blocks.{block-first}
 use Rattle.checks.specs.Checks.{Check, verdict, parameterChecks, shareChecks, bufferChecks}
 use Rattle.checks.specs.Laws.{Hold, pass, same-behind}
 use Rattle.sampler.specs.Sampler.{sampleShares, sampleWords, workLength, sampleChecks, sampled}

@@ -2,8 +2,7 @@
 use mathlib.Core.List.{List, _∷_, _++_}
 use Prim.Native.Nat.{ℕ, _*_}
 use lib.ListN.{length}
-use Rattle.buffers.specs.Positions.{at, rows}
-use Rattle.buffers.specs.Blocks.{block}
+use Rattle.buffers.specs.Positions.{at, rows, block}
 use Rattle.checks.specs.Checks.{Check, Outcome, within, parameterChecks, shareChecks, bufferChecks}
 use Rattle.sampler.specs.Sampler.{sampleShares, sampleWords, workLength, Buffers, sharesWritten}
 

@@ -3,7 +3,7 @@
 use mathlib.Core.Path.{_≡_}
 use mathlib.Core.List.{List}
 use Prim.Native.Nat.{ℕ, _*_, _<_}
-use Rattle.buffers.specs.Blocks.{block}
+use Rattle.buffers.specs.Positions.{block}
 use Rattle.checks.specs.Checks.{Outcome, accepted, checked}
 use Rattle.secrecy.specs.Secrecy.{Full, Indistinguishable, AgreeBut}
 use Rattle.sampler.specs.Sampler.{Buffers, sampleWords, workLength}

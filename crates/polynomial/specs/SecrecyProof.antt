@@ -2,7 +2,7 @@
 use mathlib.Core.Path.{_≡_, sym}
 use mathlib.Core.List.{List}
 use Prim.Native.Nat.{ℕ, _<_}
-use Rattle.buffers.specs.Blocks.{block}
+use Rattle.buffers.specs.Positions.{block}
 use Rattle.checks.specs.Laws.{accepted-holds}
 use Rattle.conversion.specs.Arrays.{full-drawn}
 use Rattle.secrecy.specs.Secrecy.{AgreeBut}

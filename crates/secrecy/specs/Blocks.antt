@@ -7,7 +7,8 @@ use native.Mathlib.Omega.{arith}
 use lib.ListN.{take, drop, length-append, length-take, length-drop, take-append-drop}
 use lib.Seq.{take-at, drop-at}
 use Rattle.residue.specs.Sum.{each-below-take, each-below-drop, each-below-append}
-use Rattle.buffers.specs.Blocks.{block, block-first, block-next}
+use Rattle.buffers.specs.Positions.{block}
+use Rattle.buffers.specs.Blocks.{block-first, block-next}
 use Rattle.secrecy.specs.Secrecy.{Full, OneToOne, Indistinguishable}
 use Rattle.secrecy.specs.Laws.{weaken, unmoved}
 
