@@ -1,5 +1,5 @@
 -- What it means, in plain facts, that a call passes its checks.
-use mathlib.Core.Path.{_≡_, ap, _∙_}
+use mathlib.Core.Path.{_≡_, ap}
 use mathlib.Core.Bool.{true}
 use mathlib.Core.List.{List}
 use Prim.Native.Nat.{ℕ, _*_, _^_, _≤_, _<_}
@@ -13,7 +13,7 @@ use Rattle.checks.specs.Search.{firstNotBelow}
 use Rattle.checks.specs.Checks.{Check, bufferChecks, isNone}
 use Rattle.checks.specs.Laws.{Hold, hold-front, hold-rest, hold-both, within-true, none-each-below, each-below-none}
 use Rattle.conversion.specs.Arrays.{Drawn}
-use Rattle.sampler.specs.Sampler.{sampleWords, workLength, pairChecks}
+use Rattle.sampler.specs.Sampler.{workLength, pairChecks}
 use Rattle.sampler.specs.Secrecy.{Room}
 use Rattle.sampler.specs.Accepted.{small, SharedPair, shared-pair, fit-drawn, fit-room, drawn-fit}
 use Rattle.polynomial.specs.Polynomial.{polynomialWords, stringsChecks, polynomialChecks}

@@ -5,7 +5,7 @@ use Prim.Native.Nat.{ℕ, _*_, _<_}
 use lib.ListN.{length, take, drop, replicate}
 use Rattle.residue.specs.Residue.{reduceℤ, EachBelow}
 use Rattle.buffers.specs.Overwrite.{overwrite}
-use Rattle.buffers.specs.Positions.{at, Same, block}
+use Rattle.buffers.specs.Positions.{at, block}
 use Rattle.buffers.specs.PositionLaws.{table-list}
 use Rattle.buffers.specs.Rows.{length-rows, rows-below, rows-same}
 use Rattle.buffers.specs.Blocks.{block-front, block-rows}
@@ -13,7 +13,7 @@ use Rattle.checks.specs.Checks.{Check, Outcome, accepted, verdict, roomChecks}
 use Rattle.checks.specs.Laws.{Hold, words-front}
 use Rattle.masking.specs.Sharing.{xorAll, openedResidue}
 use Rattle.masking.specs.Signed.{differenceOfWeights, centred, weightDifference}
-use Rattle.sampler.specs.Sampler.{Buffers, both, sampleShares, sampleWords, workLength, pairChecks}
+use Rattle.sampler.specs.Sampler.{Buffers, both, sampleShares, sampleWords, workLength}
 use Rattle.sampler.specs.Secrecy.{SharesOf}
 use Rattle.sampler.specs.Accepted.{SharedPair, shared-pair}
 use Rattle.sampler.specs.Calls.{length-shares, shares-of, shares-below}

@@ -8,7 +8,7 @@ use lib.Seq.{take-all, take-take}
 use Rattle.buffers.specs.Positions.{block}
 use Rattle.buffers.specs.Blocks.{block-first}
 use Rattle.checks.specs.Checks.{Check, verdict, parameterChecks, shareChecks, bufferChecks}
-use Rattle.checks.specs.Laws.{Hold, pass, same-behind}
+use Rattle.checks.specs.Laws.{pass, same-behind}
 use Rattle.sampler.specs.Sampler.{sampleShares, sampleWords, workLength, sampleChecks, sampled}
 use Rattle.sampler.specs.Calls.{shares-words}
 use Rattle.sampler.specs.Written.{written-same}

@@ -1,7 +1,5 @@
 -- Demand 3 for whole polynomials, proved: each coefficient's block of words has a map of its own, that of its sample.
-use mathlib.Core.Path.{_≡_, sym}
-use mathlib.Core.List.{List}
-use Prim.Native.Nat.{ℕ, _<_}
+use Prim.Native.Nat.{ℕ}
 use Rattle.buffers.specs.Positions.{block}
 use Rattle.checks.specs.Laws.{accepted-holds}
 use Rattle.conversion.specs.Arrays.{full-drawn}

@@ -3,20 +3,20 @@ use mathlib.Core.Path.{_≡_, sym, ap, _∙_}
 use mathlib.Core.List.{List}
 use Prim.Native.Nat.{ℕ, zero, suc, _+_, _≤_, _<_}
 use native.Mathlib.Omega.{arith}
-use lib.ListN.{length, take}
+use lib.ListN.{take}
 use lib.Seq.{getD-take}
 use Rattle.buffers.specs.Positions.{at, Same}
 use Rattle.buffers.specs.PositionLaws.{after-zero}
-use Rattle.checks.specs.Laws.{Hold, accepted-holds}
+use Rattle.checks.specs.Laws.{accepted-holds}
 use Rattle.secrecy.specs.Secrecy.{Full, Indistinguishable, AgreeBut}
 use Rattle.secrecy.specs.Laws.{weaken}
 use Rattle.secrecy.specs.Translation.{indistinguishable}
 use Rattle.conversion.specs.Conversion.{bitWords}
 use Rattle.conversion.specs.Arrays.{full-drawn}
 use Rattle.conversion.specs.Translation.{refreshWords}
-use Rattle.sampler.specs.Sampler.{sampleShare, sampleShares, sampleWords, workLength, pairChecks, sampleChecks}
-use Rattle.sampler.specs.Secrecy.{Room, Secrecy}
-use Rattle.sampler.specs.Accepted.{SharedPair, pair-large, shared-pair, call-holds}
+use Rattle.sampler.specs.Sampler.{sampleShare, sampleShares, sampleWords, pairChecks}
+use Rattle.sampler.specs.Secrecy.{Secrecy}
+use Rattle.sampler.specs.Accepted.{pair-large, shared-pair, call-holds}
 use Rattle.sampler.specs.Calls.{shares-at, call-shares, call-samples}
 use Rattle.sampler.specs.Translation.{sampleForm, share-form, sample-equivariant}
 

@@ -5,7 +5,7 @@ use Prim.Native.Nat.{ℕ}
 use lib.ListN.{length, take, drop, replicate, length-replicate}
 use Rattle.buffers.specs.Overwrite.{overwrite}
 use Rattle.buffers.specs.Laws.{take-front, drop-front}
-use Rattle.checks.specs.Checks.{Check, Outcome, Verdict, accepted, refused, verdict, settled}
+use Rattle.checks.specs.Checks.{Check, Outcome, Verdict, accepted, verdict, settled}
 use Rattle.checks.specs.Laws.{Hold, accepted-holds, settled-accepted, settled-answer, settled-keeps, settled-same}
 use Rattle.sampler.specs.Sampler.{Buffers, both, sharesWritten}
 

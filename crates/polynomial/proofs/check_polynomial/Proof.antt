@@ -1,6 +1,5 @@
 -- The checks down to 7 refuse, or the others decide.
-use mathlib.Core.Path.{_≡_, sym, ap, _∙_}
-use mathlib.Core.List.{List}
+use mathlib.Core.Path.{sym, ap, _∙_}
 use Prim.Native.Nat.{_*_}
 use native.Mathlib.Nat.{mul-assoc}
 use native.Mathlib.Omega.{arith}
@@ -9,7 +8,7 @@ use Rattle.checks.specs.Checks.{checked, bufferChecks}
 use Rattle.checks.specs.Laws.{checks-hold, part-passed, part-failed}
 use Rattle.conversion.specs.Conversion.{bitWords}
 use Rattle.sampler.specs.Sampler.{workLength}
-use Rattle.sampler.specs.Accepted.{Small, small, SharedPair}
+use Rattle.sampler.specs.Accepted.{Small, small}
 use Rattle.polynomial.specs.Accepted.{SmallPolynomial, small-polynomial, SharedStrings, first-pair, shared-strings}
 use Rattle.polynomial.proofs.check_polynomial.Statement.{statement}
 use Rattle.polynomial.proofs.check_polynomial.Tie as tie

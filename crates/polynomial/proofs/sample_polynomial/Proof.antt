@@ -7,7 +7,7 @@ use Rattle.checks.specs.declared.Answer.the-variants.{Done}
 use Rattle.checks.specs.Answers.{outcome}
 use Rattle.checks.specs.Laws.{Hold, checks-hold, settles-accepted, settles-refused}
 use Rattle.sampler.specs.Sampler.{both}
-use Rattle.sampler.specs.Accepted.{Small, small, SharedPair, pair-large}
+use Rattle.sampler.specs.Accepted.{Small, small, pair-large}
 use Rattle.polynomial.specs.Polynomial.{polynomialWords, polynomialChecks, sampledPolynomial}
 use Rattle.polynomial.specs.Accepted.{SmallPolynomial, small-polynomial, SharedStrings, first-pair, call-strings, call-drawn, call-room}
 use Rattle.polynomial.specs.SecrecyProof.{secrecy}
