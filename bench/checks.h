@@ -1,13 +1,8 @@
-/* What plain.c and careful.c share: the name of their function and the sampler's checks (document 01, 'Questions put to a call'). */
+/* The checks of a polynomial in C (document 01, 'Questions put to a call'; document 02, A.1), and of a sample, which has an m of 1. */
 #ifndef BENCH_CHECKS_H
 #define BENCH_CHECKS_H
 
 #include "tinplateau.h"
-
-/* Each file is built once by every compiler: NAMED(plain_sample) is plain_sample_gcc for -DCOMPILER=gcc. */
-#define JOINED(name, compiler) name##_##compiler
-#define EXPANDED(name, compiler) JOINED(name, compiler)
-#define NAMED(name) EXPANDED(name, COMPILER)
 
 static inline tp_answer answer(uint32_t code, size_t value)
 {
@@ -39,8 +34,8 @@ static inline size_t first_not_below(const uint16_t *words, size_t bits, size_t 
 }
 
 /* Code 0 and the number of words that the call uses, or the first refusal. */
-static inline tp_answer check_sample(size_t n, size_t k, uint16_t q, const uint16_t *x, size_t x_len, const uint16_t *y, size_t y_len,
-                                     const uint16_t *words, size_t words_len, size_t out_len, size_t work_len)
+static inline tp_answer check_all(size_t n, size_t k, uint16_t q, size_t m, const uint16_t *x, size_t x_len, const uint16_t *y, size_t y_len,
+                                  const uint16_t *words, size_t words_len, size_t out_len, size_t work_len)
 {
     if (n < 2 || n > 8)
         return answer(1, 0);
@@ -48,23 +43,25 @@ static inline tp_answer check_sample(size_t n, size_t k, uint16_t q, const uint1
         return answer(2, 0);
     if (q < 2 * k + 1)
         return answer(3, 0);
-    if (x_len != n)
+    if (m < 1 || m > 256)
+        return answer(23, 0);
+    if (x_len != m * n)
         return answer(4, 0);
-    if (y_len != n)
+    if (y_len != m * n)
         return answer(5, 0);
-    size_t wide = first_wide(x, n, 1u << k);
-    if (wide < n)
+    size_t wide = first_wide(x, m * n, 1u << k);
+    if (wide < m * n)
         return answer(6, wide);
-    wide = first_wide(y, n, 1u << k);
-    if (wide < n)
+    wide = first_wide(y, m * n, 1u << k);
+    if (wide < m * n)
         return answer(7, wide);
-    size_t used = 2 * k * n * (n - 1);
+    size_t used = m * 2 * k * n * (n - 1);
     if (words_len < used)
         return answer(8, 0);
-    size_t unfit = first_not_below(words, 2 * k, n * (n - 1), q);
+    size_t unfit = first_not_below(words, m * 2 * k, n * (n - 1), q);
     if (unfit < used)
         return answer(9, unfit);
-    if (out_len < n)
+    if (out_len < m * n)
         return answer(10, 0);
     if (work_len < 2 * k * n)
         return answer(11, 0);

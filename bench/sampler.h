@@ -1,5 +1,6 @@
-/* The sampler of document 01 in C. The file that includes this one says by which functions it reckons modulo q: add, sub and less_twice
- * (v - 2vb for a bit b), on operands below q. */
+/* The sampler of documents 01 and 02 in C. The file that includes this one says by which functions it reckons modulo q: add, sub and
+ * less_twice (v - 2vb for a bit b), on operands below q. It is built for each compiler and call apart: -DNAME=careful_sample_gcc, or
+ * -DNAME=careful_polynomial_gcc -DIS_polynomial. */
 #ifndef BENCH_SAMPLER_H
 #define BENCH_SAMPLER_H
 
@@ -43,18 +44,40 @@ static inline uint16_t column_share(const uint16_t *work, size_t n, size_t k, ui
     return total;
 }
 
-static inline tp_answer sample(size_t n, size_t k, uint16_t q, const uint16_t *x, size_t x_len, const uint16_t *y, size_t y_len,
-                               const uint16_t *words, size_t words_len, uint16_t *out, size_t out_len, uint16_t *work, size_t work_len)
+/* A sample's m is a constant, so that the loop over the coefficients leaves no trace in it. A sample is a function that NAME calls, and a polynomial
+ * is NAME itself. gcc makes other code of each the other way round: of samples faster by 4 to 7 in 100 from n = 3 on, of polynomials slower.
+ * Samples keep the form in which they have always been measured. */
+#ifdef IS_polynomial
+#define CALL tp_answer NAME
+#define COEFFICIENTS size_t m,
+#else
+#define CALL static inline tp_answer sample
+#define COEFFICIENTS
+enum { m = 1 };
+#endif
+
+CALL(size_t n, size_t k, uint16_t q, COEFFICIENTS const uint16_t *x, size_t x_len, const uint16_t *y, size_t y_len, const uint16_t *words,
+     size_t words_len, uint16_t *out, size_t out_len, uint16_t *work, size_t work_len)
 {
-    tp_answer checked = check_sample(n, k, q, x, x_len, y, y_len, words, words_len, out_len, work_len);
+    tp_answer checked = check_all(n, k, q, m, x, x_len, y, y_len, words, words_len, out_len, work_len);
     if (checked.code != 0)
         return checked;
-    for (size_t t = 0; t < 2 * k; t++)
-        convert_bit(t < k ? x : y, t < k ? t : t - k, n, q, words + t * n * (n - 1), work + t * n);
-    for (size_t i = 0; i < n; i++)
-        out[i] = column_share(work, n, k, q, i);
-    memset(work, 0, 2 * k * n * sizeof *work);
+    for (size_t c = 0; c < m; c++) {
+        for (size_t t = 0; t < 2 * k; t++)
+            convert_bit((t < k ? x : y) + c * n, t < k ? t : t - k, n, q, words + (c * 2 * k + t) * n * (n - 1), work + t * n);
+        for (size_t i = 0; i < n; i++)
+            out[c * n + i] = column_share(work, n, k, q, i);
+        memset(work, 0, 2 * k * n * sizeof *work);
+    }
     return checked;
 }
+
+#ifndef IS_polynomial
+tp_answer NAME(size_t n, size_t k, uint16_t q, const uint16_t *x, size_t x_len, const uint16_t *y, size_t y_len, const uint16_t *words,
+               size_t words_len, uint16_t *out, size_t out_len, uint16_t *work, size_t work_len)
+{
+    return sample(n, k, q, x, x_len, y, y_len, words, words_len, out, out_len, work, work_len);
+}
+#endif
 
 #endif

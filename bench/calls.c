@@ -1,0 +1,67 @@
+/* Random calls. */
+#include "contest.h"
+
+#include <stdlib.h>
+
+/* xorshift64, from a fixed start: every run has the same inputs. */
+static uint64_t next_random(void)
+{
+    static uint64_t state = 0x9e3779b97f4a7c15;
+    state ^= state << 13;
+    state ^= state >> 7;
+    state ^= state << 17;
+    return state >> 16;
+}
+
+/* From low to high. */
+size_t random_within(size_t low, size_t high)
+{
+    return low + next_random() % (high - low + 1);
+}
+
+/* A list of random numbers below the limit, with room behind it. */
+static uint16_t *make_list(size_t len, size_t limit)
+{
+    uint16_t *list = calloc(len + SPARE, sizeof *list);
+    if (list == NULL)
+        abort();
+    for (size_t i = 0; i < len; i++)
+        list[i] = random_within(0, limit - 1);
+    return list;
+}
+
+/* An accepted call. */
+void make_call(call *c, point p, size_t m)
+{
+    size_t shares = TP_POLYNOMIAL_SHARES(p.n, m);
+    *c = (call){.p = p,
+                .m = m,
+                .x_len = shares,
+                .y_len = shares,
+                .words_len = TP_POLYNOMIAL_WORDS(p.n, p.k, m) + random_within(0, SPARE),
+                .out_len = shares + random_within(0, SPARE),
+                .work_len = TP_SAMPLE_WORK(p.n, p.k) + random_within(0, SPARE),
+                .other_shares = shares - p.n,
+                .other_words = TP_POLYNOMIAL_WORDS(p.n, p.k, m - 1)};
+    c->x = make_list(shares, 1u << p.k);
+    c->y = make_list(shares, 1u << p.k);
+    c->words = make_list(c->words_len, p.q);
+}
+
+void free_call(call *c)
+{
+    free(c->x);
+    free(c->y);
+    free(c->words);
+}
+
+/* The inputs of a contest at a point. They are kept to the end. */
+call *make_calls(const contest *in, point p)
+{
+    call *calls = calloc(in->inputs, sizeof *calls);
+    if (calls == NULL)
+        abort();
+    for (size_t i = 0; i < in->inputs; i++)
+        make_call(&calls[i], p, in->m);
+    return calls;
+}

@@ -1,0 +1,111 @@
+/* The contests: who samples what, on which calls. A sample is seen as a polynomial of one coefficient. */
+#ifndef BENCH_CONTEST_H
+#define BENCH_CONTEST_H
+
+#include "tinplateau.h"
+
+#include <stdbool.h>
+
+enum {
+    SPARE = 8,
+    MAX_SHARES = TP_MAX_COEFFICIENTS * TP_MAX_SHARES,
+    MAX_WORK = 2 * TP_MAX_BITS * TP_MAX_SHARES,
+    MAX_CONTESTANTS = 5,
+    POINTS = 4,
+    CONTESTS = 2,
+    GOALS = 2
+};
+
+typedef tp_answer sampler(size_t n, size_t k, uint16_t q, const uint16_t *x, size_t x_len, const uint16_t *y, size_t y_len,
+                          const uint16_t *words, size_t words_len, uint16_t *out, size_t out_len, uint16_t *work, size_t work_len);
+typedef tp_answer polynomial_sampler(size_t n, size_t k, uint16_t q, size_t m, const uint16_t *x, size_t x_len, const uint16_t *y,
+                                     size_t y_len, const uint16_t *words, size_t words_len, uint16_t *out, size_t out_len, uint16_t *work,
+                                     size_t work_len);
+
+typedef enum { LIBRARY, SINGLE, PLAIN, CAREFUL } kind;
+
+/* Either `polynomial` is called once, or `sample` for each coefficient. `name` is the function's. */
+typedef struct {
+    kind kind;
+    const char *title, *name;
+    sampler *sample;
+    polynomial_sampler *polynomial;
+} contestant;
+
+/* At most this share of the time of the fastest of a kind, from n shares on; missed where it is exceeded by more than the noise. */
+typedef struct {
+    kind kind;
+    const char *title;
+    double most, noise;
+    size_t from;
+} goal;
+
+/* The goals are about the first contestant. It is timed on `inputs` calls of m coefficients; agreement is tried `agreements` times at every n and k,
+ * with calls unfit for the first `checks` checks of agree.c. */
+typedef struct {
+    const char *name, *title, *unit;
+    size_t m, inputs, checks, agreements;
+    goal goals[GOALS];
+    size_t count;
+    contestant contestants[MAX_CONTESTANTS];
+} contest;
+
+typedef struct {
+    size_t n, k;
+    uint16_t q;
+} point;
+
+/* What a call is given. Lists are as long as they are lent, or longer. `other_shares` and `other_words` are those of m - 1 coefficients. */
+typedef struct {
+    point p;
+    size_t m, x_len, y_len, words_len, out_len, work_len, other_shares, other_words;
+    uint16_t *x, *y, *words;
+} call;
+
+/* What a call leaves behind. */
+typedef struct {
+    tp_answer answer;
+    uint16_t work[MAX_WORK + SPARE], out[MAX_SHARES + SPARE];
+} outcome;
+
+/* One number for each point and contestant. */
+typedef double table[POINTS][MAX_CONTESTANTS];
+
+extern const contest contests[CONTESTS];
+extern const point points[POINTS];
+
+/* calls.c */
+size_t random_within(size_t low, size_t high);
+void make_call(call *c, point p, size_t m);
+void free_call(call *c);
+call *make_calls(const contest *in, point p);
+
+/* agree.c */
+bool agree_everywhere(const contest *in);
+
+/* tables.c */
+void print_times(const contest *in, const table times);
+void print_counts(const contest *in, const table counts);
+
+/* The call as a contestant makes it. Where that takes m calls, each is lent its part of the lists; the answer is the first refusal, or the words
+ * of all. Nothing is worked out before a sample: that would be timed. */
+static inline tp_answer run_call(const contestant *who, const call *c, uint16_t *out, uint16_t *work)
+{
+    size_t n = c->p.n, k = c->p.k;
+    const uint16_t *x = c->x, *y = c->y, *words = c->words;
+    if (who->polynomial != NULL)
+        return who->polynomial(n, k, c->p.q, c->m, x, c->x_len, y, c->y_len, words, c->words_len, out, c->out_len, work, c->work_len);
+    for (size_t left = c->m;;) {
+        tp_answer one = who->sample(n, k, c->p.q, x, c->x_len - c->other_shares, y, c->y_len - c->other_shares, words,
+                                    c->words_len - c->other_words, out, c->out_len - c->other_shares, work, c->work_len);
+        left--;
+        if (left == 0 || one.code != 0)
+            return (tp_answer){one.code, one.value + (one.code == 0 ? c->other_words : 0)};
+        x += n;
+        y += n;
+        words += one.value;
+        out += n;
+    }
+}
+
+#endif
