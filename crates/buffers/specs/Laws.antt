@@ -85,6 +85,6 @@ module _ (l s : List ℕ) where
       rw (front l s, front l (s ++ (v ∷ [])), e, drop-cons l (length s) 0 h)
       (set-at s (getD l (length s) 0) rest v (length s) refl ∙ sym (append-snoc s v rest))
 
-  -- another part of the same length in its stead
-  pub overwrite-again : (r : List ℕ) → length r ≡ length s → overwrite (overwrite l 0 s) 0 r ≡ overwrite l 0 r
-  overwrite-again r e = front (overwrite l 0 s) r ∙ ap (λ (t : List ℕ). r ++ t) (drop-front (length r) (sym e)) ∙ sym (front l r)
+  -- of a list of which only the front was changed before
+  pub front-again : (t : List ℕ) (n : ℕ) → length s ≡ n → drop n t ≡ drop n l → overwrite t 0 s ≡ overwrite l 0 s
+  front-again t n e d = front t s ∙ ap (λ (r : List ℕ). s ++ r) (rw e d) ∙ sym (front l s)

@@ -1,13 +1,11 @@
 -- Facts of the code's steps.
-use mathlib.Core.Path.{_≡_, refl, sym, ap, _∙_}
+use mathlib.Core.Path.{_≡_, sym, ap, _∙_}
 use mathlib.Core.List.{List, _++_}
-use Prim.Native.Nat.{ℕ, zero, suc, _+_, _-_, _*_, _≤_, _<_}
+use Prim.Native.Nat.{ℕ, _+_, _-_, _*_, _≤_, _<_}
 use native.Mathlib.Nat.{zero-add}
-use native.Mathlib.Numerals.{add-one}
 use native.Mathlib.Omega.{arith}
-use lib.ListN.{length, take, drop, replicate, length-replicate}
+use lib.ListN.{length, take, drop}
 use Rattle.buffers.specs.Overwrite.{overwrite}
-use Rattle.buffers.specs.Laws.{length-overwrite, overwrite-again}
 use Rattle.buffers.specs.Positions.{at, table, Same, block}
 use Rattle.buffers.specs.PositionLaws.{table-list, front-same}
 use Rattle.buffers.specs.Rows.{rows-none, rows-next, rows-length}
@@ -17,34 +15,6 @@ use Rattle.sampler.specs.Sampler.{sampleShares, sampleWords}
 use Rattle.sampler.specs.Calls.{shares-front}
 use Rattle.polynomial.specs.Polynomial.{coefficientShares, polynomialShares}
 use Rattle.polynomial.specs.Calls.{length-coefficient}
-
--- ---- the work area
-
--- after t samples: as before them, or with zeros in front
-unfoldable pub zeroed : ℕ → List ℕ → ℕ → List ℕ
-zeroed c work zero = work
-zeroed c work (suc t) = overwrite work 0 (replicate c 0)
-
-pub zeroed-none : (c : ℕ) (work : List ℕ) → work ≡ zeroed c work 0
-unfolding zeroed
-zeroed-none c work = refl
-
-pub zeroed-next : (c : ℕ) (before work after : List ℕ) (t : ℕ) → work ≡ zeroed c before t → after ≡ overwrite work 0 (replicate c 0) → after ≡ zeroed c before (t + 1)
-unfolding zeroed
-zeroed-next c before work after zero e d = d ∙ ap (λ (l : List ℕ). overwrite l 0 (replicate c 0)) e
-zeroed-next c before work after (suc t) e d = rw (add-one (suc t)) (d ∙ ap (λ (l : List ℕ). overwrite l 0 (replicate c 0)) e ∙ overwrite-again before (replicate c 0) (replicate c 0) refl)
-
-pub zeroed-length : (c : ℕ) (before work : List ℕ) (t : ℕ) → work ≡ zeroed c before t → c ≤ length before → length work ≡ length before
-unfolding zeroed
-zeroed-length c before work zero e h = ap length e
-zeroed-length c before work (suc t) e h = ap length e ∙ length-overwrite before 0 (replicate c 0) (omega (arith, length-replicate {A = ℕ} c 0))
-
-pub zeroed-all : (c : ℕ) (before work : List ℕ) (t : ℕ) → 0 < t → work ≡ zeroed c before t → work ≡ overwrite before 0 (replicate c 0)
-unfolding zeroed
-zeroed-all c before work zero h e = absurd (omega arith)
-zeroed-all c before work (suc t) h e = e
-
--- ---- a coefficient
 
 -- a block, as it is lent
 abbrev part : ℕ → ℕ → List ℕ → List ℕ

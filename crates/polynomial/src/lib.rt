@@ -5,7 +5,7 @@ use checks::Checked;
 use residue::Word;
 ghost use mathlib.Core.Path.{_≡_};
 ghost use Prim.Native.Nat.{_+_, _*_, _≤_};
-ghost use lib.ListN.{length, replicate};
+ghost use lib.ListN.{length, drop};
 ghost use Rattle.buffers.specs.Overwrite.{overwrite};
 ghost use Rattle.checks.specs.Checks.{checked};
 ghost use Rattle.checks.specs.Answers.{checkedReading, outcome};
@@ -14,7 +14,7 @@ ghost use Rattle.sampler.specs.Sampler.{sampleWords, workLength, both};
 ghost use Rattle.polynomial.specs.Polynomial.{coefficientShares, polynomialShares, polynomialWords, stringsChecks, polynomialChecks, sampledPolynomial};
 ghost use Rattle.polynomial.specs.Secrecy.{PolynomialSecrecy};
 
-// The sample of coefficient t, from the blocks t of x, y and the words to that of the output.
+// The sample of coefficient t, from the blocks t of x, y and the words to that of the output. Its rows are left in the work area.
 fn write_coefficient(
     n: usize,
     k: usize,
@@ -27,7 +27,7 @@ fn write_coefficient(
     work: &mut [Word],
 )
     requires { ⌜ (2 ≤ n) × (n ≤ 8) × (k ≤ 16) × Modulus q × (t * n + n ≤ length (now x)) × (t * n + n ≤ length (now y)) × Drawn q (t * sampleWords n k) (sampleWords n k) (now words) × (t * n + n ≤ length (now out)) × (workLength n k ≤ length (now work)) ⌝ }
-    ensures { λ _. ⌜ (now (out .exit) ≡ overwrite (now (out .entry)) (t * n) (coefficientShares n k q (now (x .entry)) (now (y .entry)) (now (words .entry)) t)) × (now (work .exit) ≡ overwrite (now (work .entry)) 0 (replicate (workLength n k) 0)) ⌝ }
+    ensures { λ _. ⌜ (now (out .exit) ≡ overwrite (now (out .entry)) (t * n) (coefficientShares n k q (now (x .entry)) (now (y .entry)) (now (words .entry)) t)) × (drop (workLength n k) (now (work .exit)) ≡ drop (workLength n k) (now (work .entry))) ⌝ }
 {
     let per = 2 * k * (n * (n - 1));
     let i = t * n;
@@ -52,8 +52,8 @@ fn write_coefficients(
     out: &mut [Word],
     work: &mut [Word],
 )
-    requires { ⌜ (2 ≤ n) × (n ≤ 8) × (k ≤ 16) × Modulus q × (1 ≤ m) × (length (now x) ≡ m * n) × (length (now y) ≡ m * n) × Drawn q 0 (polynomialWords n k m) (now words) × (m * n ≤ length (now out)) × (workLength n k ≤ length (now work)) ⌝ }
-    ensures { λ _. ⌜ (now (out .exit) ≡ overwrite (now (out .entry)) 0 (polynomialShares n k q m (now (x .entry)) (now (y .entry)) (now (words .entry)))) × (now (work .exit) ≡ overwrite (now (work .entry)) 0 (replicate (workLength n k) 0)) ⌝ }
+    requires { ⌜ (2 ≤ n) × (n ≤ 8) × (k ≤ 16) × Modulus q × (length (now x) ≡ m * n) × (length (now y) ≡ m * n) × Drawn q 0 (polynomialWords n k m) (now words) × (m * n ≤ length (now out)) × (workLength n k ≤ length (now work)) ⌝ }
+    ensures { λ _. ⌜ (now (out .exit) ≡ overwrite (now (out .entry)) 0 (polynomialShares n k q m (now (x .entry)) (now (y .entry)) (now (words .entry)))) × (drop (workLength n k) (now (work .exit)) ≡ drop (workLength n k) (now (work .entry))) ⌝ }
 {
     for t in 0..m {
         write_coefficient(n, k, q, t, x, y, words, out, work);
@@ -116,5 +116,6 @@ pub fn sample_polynomial(
         return Answer::Refused(r);
     }
     write_coefficients(n, k, q, m, x, y, words, out, work);
+    buffers::zero(work, 2 * k * n);
     Answer::Done(m * (2 * k * (n * (n - 1))))
 }

@@ -1,17 +1,17 @@
 -- Facts of the code's steps.
-use mathlib.Core.Path.{_≡_, refl, sym, ap, _∙_}
+use mathlib.Core.Path.{_≡_, refl, ap, _∙_}
 use mathlib.Core.List.{List, _++_}
 use Prim.Native.Nat.{ℕ, _+_, _-_, _*_, _≤_, _<_}
 use native.Mathlib.Nat as N
 use native.Mathlib.Omega.{arith}
 use lib.Arith.{digits-lt}
-use lib.ListN.{length, take, drop, replicate, length-append, length-replicate, List·getD-append}
+use lib.ListN.{length, take, drop, length-append, List·getD-append}
 use lib.Seq.{getD-append-add}
 use Rattle.residue.specs.Residue.{EachBelow}
 use Rattle.residue.specs.Laws.{sub-cong}
 use Rattle.residue.specs.Sum.{sum-cong, each-below-append}
 use Rattle.buffers.specs.Overwrite.{overwrite}
-use Rattle.buffers.specs.Laws.{length-overwrite, overwrite-append, overwrite-again, front-below}
+use Rattle.buffers.specs.Laws.{length-overwrite, overwrite-append, front-below, drop-front}
 use Rattle.buffers.specs.Positions.{at, table, rows, after, Below}
 use Rattle.buffers.specs.PositionLaws.{part-after, table-same}
 use Rattle.buffers.specs.Rows.{length-rows, rows-at, rows-below}
@@ -85,10 +85,9 @@ module _ (k n : ℕ) (f g : ℕ → ℕ → ℕ) where
       filled-second =
           filled-at (k * n + (t * n + i)) (omega (arith, inside)) ∙ rw (← length-rows k n f) (getD-append-add (rows k n f) (rows k n g) (t * n + i) 0) ∙ rows-at k n g t i h l
 
-    pub filled-zeroed : overwrite work 0 (replicate (workLength n k) 0) ≡ overwrite before 0 (replicate (workLength n k) 0)
-    filled-zeroed =
-        ap (λ (l : List ℕ). overwrite l 0 (replicate (workLength n k) 0)) filled
-        ∙ overwrite-again before both-rows (replicate (workLength n k) 0) (length-replicate (workLength n k) 0 ∙ sym length-both)
+    -- what lies behind them is kept
+    pub filled-kept : drop (workLength n k) work ≡ drop (workLength n k) before
+    filled-kept = ap (drop (workLength n k)) filled ∙ drop-front before both-rows (workLength n k) length-both
 
 -- the columns of both strings' rows sum to the shares
 pub columns-shares : (n k q : ℕ) (x y words before first work : List ℕ) (e : first ≡ overwrite before 0 (rows k n (row q n (at x) (at words))))

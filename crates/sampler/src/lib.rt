@@ -6,7 +6,7 @@ use residue::Wide;
 use residue::Word;
 ghost use mathlib.Core.Path.{_≡_};
 ghost use Prim.Native.Nat.{_+_, _*_, _≤_, _<_};
-ghost use lib.ListN.{length, replicate};
+ghost use lib.ListN.{length, drop};
 ghost use Rattle.buffers.specs.Overwrite.{overwrite};
 ghost use Rattle.buffers.specs.Positions.{at, table, rows};
 ghost use Rattle.checks.specs.Checks.{checked};
@@ -72,8 +72,7 @@ fn write_shares(work: &[Word], n: usize, k: usize, q: Word, out: &mut [Word])
     }
 }
 
-// The sample of the strings whose shares stand in front of x and y. The rows stand in the work area until they are summed, and are then
-// overwritten by zeros.
+// The sample of the strings whose shares stand in front of x and y. The rows are left in the work area.
 // `&words[..]`: the words' address and length are then copied one by one, as they were stored, which is faster than both at once.
 pub fn write_sample(
     n: usize,
@@ -86,13 +85,12 @@ pub fn write_sample(
     work: &mut [Word],
 )
     requires { ⌜ (2 ≤ n) × (n ≤ 8) × (k ≤ 16) × Modulus q × Drawn q 0 (sampleWords n k) (now words) × (n ≤ length (now out)) × (workLength n k ≤ length (now work)) ⌝ }
-    ensures { λ _. ⌜ (now (out .exit) ≡ overwrite (now (out .entry)) 0 (sampleShares n k q (now (x .entry)) (now (y .entry)) (now (words .entry)))) × (now (work .exit) ≡ overwrite (now (work .entry)) 0 (replicate (workLength n k) 0)) ⌝ }
+    ensures { λ _. ⌜ (now (out .exit) ≡ overwrite (now (out .entry)) 0 (sampleShares n k q (now (x .entry)) (now (y .entry)) (now (words .entry)))) × (drop (workLength n k) (now (work .exit)) ≡ drop (workLength n k) (now (work .entry))) ⌝ }
 {
     let half = k * (n * (n - 1));
     write_rows(x, n, k, q, &words[..], work, 0);
     write_rows(y, n, k, q, &words[half..], work, k * n);
     write_shares(work, n, k, q, out);
-    buffers::zero(work, 2 * k * n);
 }
 
 fn check_pair(n: usize, k: usize, q: Word, x: &[u16], y: &[u16]) -> Checked
@@ -148,5 +146,6 @@ pub fn sample(
     buffers::copy_eight(&mut a, x);
     buffers::copy_eight(&mut b, y);
     write_sample(n, k, q, &a, &b, &words[..], out, work);
+    buffers::zero(work, 2 * k * n);
     Answer::Done(2 * k * (n * (n - 1)))
 }

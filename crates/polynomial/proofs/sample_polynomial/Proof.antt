@@ -1,12 +1,14 @@
 -- The checks' verdict; a refusal comes before anything is written, and behind the checks all is ready for the samples.
 use mathlib.Core.Path.{ap₂, _∙_}
+use Prim.Native.Nat.{ℕ, _≤_}
 use native.Mathlib.Omega.{arith}
-use lib.ListN.{length}
+use lib.ListN.{length, length-replicate}
 use borrow.Author.Needs.{needs}
 use Rattle.checks.specs.declared.Answer.the-variants.{Done}
 use Rattle.checks.specs.Answers.{outcome}
 use Rattle.checks.specs.Laws.{Hold, checks-hold, settles-accepted, settles-refused}
-use Rattle.sampler.specs.Sampler.{both}
+use Rattle.buffers.specs.Laws.{front-again}
+use Rattle.sampler.specs.Sampler.{workLength, both}
 use Rattle.sampler.specs.Accepted.{Small, small, pair-large}
 use Rattle.polynomial.specs.Polynomial.{polynomialWords, polynomialChecks, sampledPolynomial}
 use Rattle.polynomial.specs.Accepted.{SmallPolynomial, small-polynomial, SharedStrings, first-pair, call-strings, call-drawn, call-room}
@@ -14,8 +16,12 @@ use Rattle.polynomial.specs.SecrecyProof.{secrecy}
 use Rattle.polynomial.proofs.sample_polynomial.Statement.{statement}
 use Rattle.polynomial.proofs.sample_polynomial.Tie as tie
 
+-- the places where the call begins, and where the checks have passed
 abbrev start : tie.After-enum-told → tie.Start
 start c = c .before .before .before .before .before .before .before .before
+
+abbrev passed : tie.After-slice-known5 → tie.After-enum-told
+passed c = c .before .before .before .before .before .before .before .before .before .before .before
 
 holds : (c : tie.After-enum-told) → let a = start c .args in Hold (polynomialChecks (a .n) (a .k) (a .q) (a .m) (a .x .now) (a .y .now) (a .words .now) (length (a .out .now)) (length (a .work .now)))
 holds c = checks-hold _ _ (c .before .before .check-polynomial .ensures) (c .enum-told .given .1)
@@ -53,7 +59,6 @@ write-coefficients-requires c κs =
       p .eight,
       p .sixteen,
       record { large = pair-large p; small = omega arith },
-      S .some,
       S .x-count,
       S .y-count,
       call-drawn _ _ _ _ _ _ _ (a .out .now) (a .work .now) h,
@@ -61,20 +66,33 @@ write-coefficients-requires c κs =
       r .1,
     )
 
+mul-zero : tie.Need-mul-zero
+mul-zero c = omega (arith, sizes (c .before .before .before .before .before .before .before .before) .bits)
+
+mul-zero-2 : tie.Need-mul-zero-2
+mul-zero-2 c = omega (arith, sizes (c .before .before .before .before .before .before .before .before) .rows)
+
+zero-requires : tie.Need-zero-requires
+zero-requires c κs =
+    let t = c .before .before .before .before .before .before .before .before in
+    let a = start t .args in
+    let r : workLength (a .n) (a .k) ≤ length (a .work .now) = call-room _ _ _ _ _ _ _ (a .out .now) (a .work .now) (holds t) .1 in
+    search needs
+
 mul-t12 : tie.Need-mul-t12
-mul-t12 c = omega (arith, sizes (c .before .before .before .before .before .before .before) .bits)
+mul-t12 c = omega (arith, sizes (passed c) .bits)
 
 sub-t13 : tie.Need-sub-t13
-sub-t13 c = omega (arith, first-pair (strings (c .before .before .before .before .before .before .before)) .two)
-
-mul-t19 : tie.Need-mul-t19
-mul-t19 c = omega (arith, sizes (c .before .before .before .before .before .before .before) .per)
-
-mul-t20 : tie.Need-mul-t20
-mul-t20 c = omega (arith, sizes (c .before .before .before .before .before .before .before) .words)
+sub-t13 c = omega (arith, first-pair (strings (passed c)) .two)
 
 mul-t21 : tie.Need-mul-t21
-mul-t21 c = omega (arith, all-sizes (c .before .before .before .before .before .before .before) .words)
+mul-t21 c = omega (arith, sizes (passed c) .per)
+
+mul-t22 : tie.Need-mul-t22
+mul-t22 c = omega (arith, sizes (passed c) .words)
+
+mul-t23 : tie.Need-mul-t23
+mul-t23 c = omega (arith, all-sizes (passed c) .words)
 
 same-length : tie.Need-same-length
 same-length c = search needs
@@ -85,11 +103,13 @@ same-length-2 c = search needs
 returns-2 : tie.Need-returns-2
 unfolding sampledPolynomial
 returns-2 c =
-    let d = c .before .before .before .before .before .before .before in
+    let d = passed c in
     let a = start d .args in
-    let e = c .before .before .before .before .write-coefficients .ensures in
+    let e = c .before .before .before .before .before .before .before .before .write-coefficients .ensures in
+    let zeros = workLength (a .n) (a .k) in
+    let z = c .before .before .zero .ensures ∙ front-again (a .work .now) _ _ zeros (length-replicate {A = ℕ} zeros 0) (e .1) in
     let count = polynomialWords (a .n) (a .k) (a .m) in (
-      ap₂ (λ o w. outcome (Done count) (both o w)) (e .0) (e .1) ∙ settles-accepted _ _ (d .before .before .check-polynomial .ensures) count (both (a .out .now) (a .work .now)) _ (d .enum-told .given .1),
+      ap₂ (λ o w. outcome (Done count) (both o w)) (e .0) z ∙ settles-accepted _ _ (d .before .before .check-polynomial .ensures) count (both (a .out .now) (a .work .now)) _ (d .enum-told .given .1),
       secrecy _ _ _ _,
     )
 
@@ -102,11 +122,14 @@ sample-polynomial-spec =
     returns
     enum-told
     write-coefficients-requires
+    mul-zero
+    mul-zero-2
+    zero-requires
     mul-t12
     sub-t13
-    mul-t19
-    mul-t20
     mul-t21
+    mul-t22
+    mul-t23
     same-length
     same-length-2
     returns-2)

@@ -1,36 +1,33 @@
--- The coefficients below t stand in the output; the work area is zeroed once the first does.
-use mathlib.Core.Path.{_≡_, ap, _∙_}
+-- The coefficients below t stand in the output, and the work area is kept behind its first 2kn words.
+use mathlib.Core.Path.{_≡_, refl, ap, _∙_}
 use Prim.Native.Nat.{_-_, _*_, _≤_}
 use native.Mathlib.Nat.{mul-le-mul-right}
 use native.Mathlib.Omega.{arith}
-use lib.ListN.{length}
+use lib.ListN.{length, drop}
 use borrow.Author.Needs.{needs}
 use Rattle.buffers.specs.Overwrite.{overwrite}
 use Rattle.buffers.specs.Blocks.{block-fits}
 use Rattle.conversion.specs.Arrays.{drawn-part}
 use Rattle.sampler.specs.Sampler.{sampleWords, workLength}
 use Rattle.polynomial.specs.Polynomial.{polynomialShares}
-use Rattle.polynomial.proofs.Steps.{coefficients-none, coefficients-next, coefficients-length, zeroed, zeroed-none, zeroed-next, zeroed-length, zeroed-all}
+use Rattle.polynomial.proofs.Steps.{coefficients-none, coefficients-next, coefficients-length}
 use Rattle.polynomial.proofs.write_coefficients.Statement.{statement}
 use Rattle.polynomial.proofs.write_coefficients.Tie as tie
 
 abbrev Inv-loop : tie.InvT-loop
-Inv-loop n k q m x y words out₀ work₀ t₀ out work t = (t ≤ m) × (out ≡ overwrite out₀ 0 (polynomialShares n k q t x y words)) × (work ≡ zeroed (workLength n k) work₀ t)
+Inv-loop n k q m x y words out₀ work₀ t₀ out work t = (t ≤ m) × (out ≡ overwrite out₀ 0 (polynomialShares n k q t x y words)) × (length work ≡ length work₀) × (drop (workLength n k) work ≡ drop (workLength n k) work₀)
 
 abbrev μ-loop : tie.MeasureT-loop
 μ-loop n k q m x y words out₀ work₀ t₀ out work t = m - t
 
--- the buffers keep their lengths
+-- the output keeps its length
 out-length : (c : tie.At-loop Inv-loop μ-loop) → length (c .loop .out) ≡ length (c .before .before .before .before .before .before .args .out .now)
 out-length c =
     let s = c .before .before .before .before .before .before in
-    coefficients-length _ _ _ _ _ _ _ _ _ (c .loop .inv .1) (omega (arith, mul-le-mul-right (s .args .n) (c .loop .inv .0), s .pre .8))
-
-work-length : (c : tie.At-loop Inv-loop μ-loop) → length (c .loop .work) ≡ length (c .before .before .before .before .before .before .args .work .now)
-work-length c = zeroed-length _ _ _ _ (c .loop .inv .2) (c .before .before .before .before .before .before .pre .9)
+    coefficients-length _ _ _ _ _ _ _ _ _ (c .loop .inv .1) (omega (arith, mul-le-mul-right (s .args .n) (c .loop .inv .0), s .pre .7))
 
 loop-holds : tie.Need-loop-holds Inv-loop μ-loop
-loop-holds c = (omega arith, coefficients-none _ _ _ _ _ _ _, zeroed-none _ _)
+loop-holds c = (omega arith, coefficients-none _ _ _ _ _ _ _, refl, refl)
 
 write-coefficient-requires : tie.Need-write-coefficient-requires Inv-loop μ-loop
 write-coefficient-requires c κs =
@@ -42,11 +39,11 @@ write-coefficient-requires c κs =
       s .pre .1,
       s .pre .2,
       s .pre .3,
+      omega (arith, s .pre .4),
       omega (arith, s .pre .5),
-      omega (arith, s .pre .6),
-      drawn-part (l .t * W) (l .t * W) W (omega arith) (block-fits W (c .before .before .loop-test .taken)) (s .pre .7),
-      omega (arith, s .pre .8, out-length (c .before .before .before)),
-      omega (arith, s .pre .9, work-length (c .before .before .before)),
+      drawn-part (l .t * W) (l .t * W) W (omega arith) (block-fits W (c .before .before .loop-test .taken)) (s .pre .6),
+      omega (arith, s .pre .7, out-length (c .before .before .before)),
+      omega (arith, s .pre .8, l .inv .2),
     )
 
 add-t : tie.Need-add-t Inv-loop μ-loop
@@ -59,13 +56,13 @@ loop-again : tie.Need-loop-again Inv-loop μ-loop
 loop-again c =
     let l = c .before .before .before .before .before .before .before .before .loop in
     let e = c .before .before .before .before .write-coefficient .ensures in
-    (omega arith, coefficients-next _ _ _ _ _ _ _ _ _ _ (l .inv .1) (e .0), zeroed-next _ _ _ _ _ (l .inv .2) (e .1))
+    (omega arith, coefficients-next _ _ _ _ _ _ _ _ _ _ (l .inv .1) (e .0), search needs, e .1 ∙ l .inv .3)
 
 same-length : tie.Need-same-length Inv-loop μ-loop
 same-length c = out-length (c .before)
 
 same-length-2 : tie.Need-same-length-2 Inv-loop μ-loop
-same-length-2 c = work-length (c .before)
+same-length-2 c = c .before .loop .inv .2
 
 returns : tie.Need-returns Inv-loop μ-loop
 returns c =
@@ -73,7 +70,7 @@ returns c =
     let l = c .before .loop in
     let e : l .t ≡ s .args .m = omega arith in
     let a = s .args in
-    (l .inv .1 ∙ ap (λ m. overwrite (a .out .now) 0 (polynomialShares (a .n) (a .k) (a .q) m (a .x .now) (a .y .now) (a .words .now))) e, zeroed-all _ _ _ _ (omega (arith, s .pre .4)) (l .inv .2))
+    (l .inv .1 ∙ ap (λ m. overwrite (a .out .now) 0 (polynomialShares (a .n) (a .k) (a .q) m (a .x .now) (a .y .now) (a .words .now))) e, l .inv .3)
 
 pub write-coefficients-spec : {M : Type 1} → statement M
 write-coefficients-spec =

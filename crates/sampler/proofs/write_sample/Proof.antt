@@ -1,4 +1,4 @@
--- The rows of x and behind them those of y, their columns summed, and zeros over them.
+-- The rows of x and behind them those of y, and their columns summed.
 use mathlib.Core.Path.{refl, ap, _∙_}
 use Prim.Native.Nat.{_*_}
 use native.Mathlib.Omega.{arith}
@@ -8,7 +8,7 @@ use Rattle.conversion.specs.Conversion.{bitWords}
 use Rattle.conversion.specs.Arrays.{drawn-part, drawn-behind}
 use Rattle.sampler.specs.Accepted.{small}
 use Rattle.sampler.specs.Laws.{row-lt}
-use Rattle.sampler.proofs.Steps.{rows-behind, filled-drawn, filled-zeroed, columns-shares}
+use Rattle.sampler.proofs.Steps.{rows-behind, filled-drawn, filled-kept, columns-shares}
 use Rattle.sampler.proofs.write_sample.Statement.{statement}
 use Rattle.sampler.proofs.write_sample.Tie as tie
 
@@ -53,15 +53,6 @@ write-shares-requires c κs =
     let q = s .pre .3 in
     (q, filled-drawn _ _ _ _ _ _ _ (c .before .before .before .before .before .before .before .before .before .write-rows .ensures) (c .before .before .before .before .write-rows2 .ensures) _ (s .pre .6) (λ t. row-lt _ _ (q .large) _ _ t) (λ t. row-lt _ _ (q .large) _ _ t), search needs)
 
-mul-zero : tie.Need-mul-zero
-mul-zero c = search needs
-
-mul-zero-2 : tie.Need-mul-zero-2
-mul-zero-2 c = search needs
-
-zero-requires : tie.Need-zero-requires
-zero-requires c κs = search needs
-
 same-length : tie.Need-same-length
 same-length c = search needs
 
@@ -70,11 +61,11 @@ same-length-2 c = search needs
 
 returns : tie.Need-returns
 returns c =
-    let a = c .before .before .before .before .before .before .before .before .before .before .before .before .before .before .before .before .before .before .before .before .before .args in
-    let d = c .before .before .before .before .before .before .before .before .before .before .before in
+    let a = c .before .before .before .before .before .before .before .before .before .before .before .before .before .before .before .before .before .args in
+    let d = c .before .before .before .before .before .before .before in
     let e = d .before .before .before .before .before .write-rows .ensures in
     let f = rows-behind (a .k) (a .q) (a .n) (a .k * bitWords (a .n)) _ (a .y .now) (a .words .now) _ _ (d .write-rows2 .ensures) in
-    (c .before .before .before .before .before .before .write-shares .ensures ∙ ap (overwrite _ 0) (columns-shares _ _ _ _ _ _ _ _ _ e f), c .before .before .zero .ensures ∙ filled-zeroed _ _ _ _ _ _ _ e f)
+    (c .before .before .write-shares .ensures ∙ ap (overwrite _ 0) (columns-shares _ _ _ _ _ _ _ _ _ e f), filled-kept _ _ _ _ _ _ _ e f)
 
 pub write-sample-spec : {M : Type 1} → statement M
 write-sample-spec =
@@ -91,9 +82,6 @@ write-sample-spec =
     mul-write-rows-2
     write-rows-requires-2
     write-shares-requires
-    mul-zero
-    mul-zero-2
-    zero-requires
     same-length
     same-length-2
     returns)
