@@ -41,10 +41,10 @@ pub const STRING_LENGTH: u32 = 2;
 // q is too small.
 pub const MODULUS: u32 = 3;
 
-// The list of Boolean shares, of x where there are two, has not exactly n words.
+// The list of Boolean shares, of x where there are two, has not exactly n words, or mn for a polynomial.
 pub const X_COUNT: u32 = 4;
 
-// The list of the shares of y has not exactly n words.
+// The list of the shares of y has not exactly n words, or mn for a polynomial.
 pub const Y_COUNT: u32 = 5;
 
 // A Boolean share, of x where there are two, has a bit at k or above.

@@ -15,19 +15,8 @@ use Rattle.checks.specs.Laws.{Hold, hold-front, hold-rest, hold-both, within-tr
 use Rattle.conversion.specs.Arrays.{Drawn}
 use Rattle.sampler.specs.Sampler.{workLength, pairChecks}
 use Rattle.sampler.specs.Secrecy.{Room}
-use Rattle.sampler.specs.Accepted.{small, SharedPair, shared-pair, fit-drawn, fit-room, drawn-fit}
+use Rattle.sampler.specs.Accepted.{Small, small, SharedPair, shared-pair, fit-drawn, fit-room, drawn-fit}
 use Rattle.polynomial.specs.Polynomial.{polynomialWords, stringsChecks, polynomialChecks}
-
--- the numbers that the code computes are small
-pub record SmallPolynomial (n k m : ℕ) : Type 0 where
-  pub shares : m * n ≤ 2048
-  pub bits : m * (2 * k) ≤ 8192
-  pub words : polynomialWords n k m ≤ 458752
-
-pub small-polynomial : (n k m : ℕ) → n ≤ 8 → k ≤ 16 → m ≤ 256 → SmallPolynomial n k m
-small-polynomial n k m h l g =
-    let s = small n k h l in
-    record { shares = N.mul-le-mul g h; bits = N.mul-le-mul g (s .bits); words = N.mul-le-mul g (s .words) }
 
 -- m pairs of strings of k bits, each in n shares
 pub record SharedStrings (n k q m : ℕ) (x y : List ℕ) : Type 0 where
@@ -40,6 +29,19 @@ pub record SharedStrings (n k q m : ℕ) (x y : List ℕ) : Type 0 where
 -- what each of them says of n, k and q
 pub first-pair : {n k q m : ℕ} {x y : List ℕ} → SharedStrings n k q m x y → SharedPair n k q (block n 0 x) (block n 0 y)
 first-pair {n} {k} {q} {m} {x} {y} S = shared-pair n k q (block n 0 x) (block n 0 y) (S .coefficient 0 (S .some))
+
+-- the numbers that the code computes are small
+pub record SmallPolynomial (n k m : ℕ) : Type 0 where
+  pub sample : Small n k
+  pub shares : m * n ≤ 2048
+  pub bits : m * (2 * k) ≤ 8192
+  pub words : polynomialWords n k m ≤ 458752
+
+pub small-polynomial : {n k q m : ℕ} {x y : List ℕ} → SharedStrings n k q m x y → SmallPolynomial n k m
+small-polynomial S =
+    let p = first-pair S in
+    let s = small _ _ (p .eight) (p .sixteen) in
+    record { sample = s; shares = N.mul-le-mul (S .most) (p .eight); bits = N.mul-le-mul (S .most) (s .bits); words = N.mul-le-mul (S .most) (s .words) }
 
 module _ (n k q m : ℕ) (x y : List ℕ) where
   pub shared-strings : Hold (stringsChecks n k q m x y) → SharedStrings n k q m x y

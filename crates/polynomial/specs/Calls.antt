@@ -1,6 +1,6 @@
 -- What holds of every call.
-use mathlib.Core.Path.{_≡_, sym, ap, ap₂, _∙_}
-use mathlib.Core.List.{List, _++_}
+use mathlib.Core.Path.{_≡_, sym, ap, _∙_}
+use mathlib.Core.List.{List}
 use Prim.Native.Nat.{ℕ, _*_, _<_}
 use lib.ListN.{length, take, drop, replicate}
 use Rattle.residue.specs.Residue.{reduceℤ, EachBelow}
@@ -9,15 +9,15 @@ use Rattle.buffers.specs.Positions.{at, block}
 use Rattle.buffers.specs.PositionLaws.{table-list}
 use Rattle.buffers.specs.Rows.{length-rows, rows-below, rows-same}
 use Rattle.buffers.specs.Blocks.{block-front, block-rows}
-use Rattle.checks.specs.Checks.{Check, Outcome, accepted, verdict, roomChecks}
-use Rattle.checks.specs.Laws.{Hold, words-front}
+use Rattle.checks.specs.Checks.{Outcome, accepted}
+use Rattle.checks.specs.Laws.{Hold}
 use Rattle.masking.specs.Sharing.{xorAll, openedResidue}
 use Rattle.masking.specs.Signed.{differenceOfWeights, centred, weightDifference}
 use Rattle.sampler.specs.Sampler.{Buffers, both, sampleShares, sampleWords, workLength}
 use Rattle.sampler.specs.Secrecy.{SharesOf}
 use Rattle.sampler.specs.Accepted.{SharedPair, shared-pair}
 use Rattle.sampler.specs.Calls.{length-shares, shares-of, shares-below}
-use Rattle.sampler.specs.Written.{written-answer, written-out-kept, written-work-kept, written-accepted, written-shares, written-zeros, written-same}
+use Rattle.sampler.specs.Written.{written-out-kept, written-work-kept, written-accepted, written-shares, written-zeros, written-before, written-words}
 use Rattle.sampler.specs.Opened.{shares-opened, residue-centred}
 use Rattle.polynomial.specs.Polynomial.{coefficientShares, polynomialShares, polynomialWords, stringsChecks, polynomialChecks, sampledPolynomial}
 use Rattle.polynomial.specs.Secrecy.{Polynomial}
@@ -49,7 +49,7 @@ module _ {n k q m : ℕ} {x y : List ℕ} (S : SharedStrings n k q m x y) (words
   polynomial-below = rows-below q m n _ (λ t l i b. shares-below (pair t l) (block (sampleWords n k) t words) i (rw (length-coefficient n k q x y words t) b))
 
   -- words behind the first m × W do not matter
-  pub polynomial-words : (words′ : List ℕ) → take (polynomialWords n k m) words ≡ take (polynomialWords n k m) words′ → polynomialShares n k q m x y words ≡ polynomialShares n k q m x y words′
+  polynomial-words : (words′ : List ℕ) → take (polynomialWords n k m) words ≡ take (polynomialWords n k m) words′ → polynomialShares n k q m x y words ≡ polynomialShares n k q m x y words′
   unfolding polynomialShares coefficientShares
   polynomial-words words′ e =
       rows-same m n _ _ (λ t l i b. ap (λ (w : List ℕ). at (sampleShares n k q (block n t x) (block n t y) w) i) (sym (block-front (sampleWords n k) words t m l) ∙ ap (block (sampleWords n k) t) e ∙ block-front (sampleWords n k) words′ t m l))
@@ -81,7 +81,7 @@ module _ (n k q m : ℕ) (x y words out work : List ℕ) (h : Hold (polynomialCh
     pub call-coefficient : block n t (sampledPolynomial n k q m x y words out work .buffers .out) ≡ coefficientShares n k q x y words t
     call-coefficient = sym (block-front n _ t m l) ∙ ap (block n t) call-shares ∙ polynomial-coefficient n k q x y words t m l
 
-    pub call-shares-of : SharesOf n k q (block n t x) (block n t y) (block (sampleWords n k) t words) (block n t (sampledPolynomial n k q m x y words out work .buffers .out))
+    call-shares-of : SharesOf n k q (block n t x) (block n t y) (block (sampleWords n k) t words) (block n t (sampledPolynomial n k q m x y words out work .buffers .out))
     unfolding coefficientShares
     call-shares-of = shares-of (pair strings words t l) (block (sampleWords n k) t words) call-coefficient
 
@@ -112,19 +112,14 @@ module _ (n k q m : ℕ) (x y words out work : List ℕ) where
   pub words-behind : (words′ : List ℕ) → take (polynomialWords n k m) words ≡ take (polynomialWords n k m) words′ → sampledPolynomial n k q m x y words out work ≡ sampledPolynomial n k q m x y words′ out work
   unfolding sampledPolynomial
   words-behind words′ e =
-      written-same (polynomialChecks n k q m x y words (length out) (length work)) (polynomialWords n k m) (polynomialShares n k q m x y words) (workLength n k) out work
-      (polynomialChecks n k q m x y words′ (length out) (length work)) (polynomialWords n k m) (polynomialShares n k q m x y words′)
+      written-words (stringsChecks n k q m x y) (polynomialWords n k m) q (m * n) (workLength n k) words words′ (polynomialShares n k q m x y words) (polynomialShares n k q m x y words′) out work e
       (λ h. polynomial-words (call-strings n k q m x y words out work h) words words′ e)
-      (ap (λ (cs : List Check). verdict (stringsChecks n k q m x y ++ (cs ++ roomChecks (m * n) (length out) (workLength n k) (length work))) (polynomialWords n k m)) (words-front (polynomialWords n k m) q words words′ e))
 
   module _ (out′ work′ : List ℕ) where
     -- the answer depends on the lengths of output and work area, not on what they held
     pub answer-before : length out ≡ length out′ → length work ≡ length work′ → sampledPolynomial n k q m x y words out work .answer ≡ sampledPolynomial n k q m x y words out′ work′ .answer
     unfolding sampledPolynomial
-    answer-before e d =
-        written-answer _ (polynomialWords n k m) (polynomialShares n k q m x y words) (workLength n k) out work
-        ∙ ap₂ (λ (room area : ℕ). verdict (polynomialChecks n k q m x y words room area) (polynomialWords n k m)) e d
-        ∙ sym (written-answer _ (polynomialWords n k m) (polynomialShares n k q m x y words) (workLength n k) out′ work′)
+    answer-before = written-before (polynomialChecks n k q m x y words) (polynomialWords n k m) (polynomialShares n k q m x y words) (workLength n k) out work out′ work′
 
     -- nor do the shares
     pub shares-before : Hold (polynomialChecks n k q m x y words (length out) (length work)) → Hold (polynomialChecks n k q m x y words (length out′) (length work′))

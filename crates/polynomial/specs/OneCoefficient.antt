@@ -10,7 +10,7 @@ use Rattle.buffers.specs.Blocks.{block-first}
 use Rattle.checks.specs.Checks.{Check, verdict, parameterChecks, shareChecks, bufferChecks}
 use Rattle.checks.specs.Laws.{pass, same-behind}
 use Rattle.sampler.specs.Sampler.{sampleShares, sampleWords, workLength, sampleChecks, sampled}
-use Rattle.sampler.specs.Calls.{shares-words}
+use Rattle.sampler.specs.Calls.{shares-words, call-written}
 use Rattle.sampler.specs.Written.{written-same}
 use Rattle.polynomial.specs.Polynomial.{coefficientShares, polynomialShares, polynomialWords, coefficientCount, polynomialChecks, sampledPolynomial}
 use Rattle.polynomial.specs.Accepted.{SharedStrings, first-pair, call-strings}
@@ -37,8 +37,9 @@ module _ (n k q : ℕ) (x y words out work : List ℕ) where
       ∙ ap₂ (λ (count shares : ℕ). verdict (parameterChecks n k q ++ others count shares) count) (one-mul (sampleWords n k)) (one-mul n)
 
   pub one-coefficient : sampledPolynomial n k q 1 x y words out work ≡ sampled n k q x y words out work
-  unfolding sampledPolynomial sampled
+  unfolding sampledPolynomial
   one-coefficient =
       written-same (polynomialChecks n k q 1 x y words (length out) (length work)) (polynomialWords n k 1) (polynomialShares n k q 1 x y words) (workLength n k) out work
       (sampleChecks n k q x y words (length out) (length work)) (sampleWords n k) (sampleShares n k q x y words)
       (λ h. shares (call-strings n k q 1 x y words out work h)) verdicts
+      ∙ sym (call-written n k q x y words out work)

@@ -1,6 +1,6 @@
 -- What holds of every call.
-use mathlib.Core.Path.{_≡_, refl, sym, ap, ap₂, _∙_}
-use mathlib.Core.List.{List, _++_}
+use mathlib.Core.Path.{_≡_, refl, sym, ap, _∙_}
+use mathlib.Core.List.{List}
 use Prim.Native.Nat.{ℕ, _<_}
 use native.Mathlib.Omega.{arith}
 use lib.ListN.{length, take, drop, replicate}
@@ -11,15 +11,15 @@ use Rattle.residue.specs.Sum.{sum-cong, sum-list}
 use Rattle.buffers.specs.Overwrite.{overwrite}
 use Rattle.buffers.specs.Positions.{at, Same}
 use Rattle.buffers.specs.PositionLaws.{length-table, table-at, table-below, table-same}
-use Rattle.checks.specs.Checks.{Check, Outcome, Verdict, accepted, refused, verdict, checked, roomChecks, bufferChecks}
-use Rattle.checks.specs.Laws.{Hold, accepted-holds, settled-refuses, words-front}
+use Rattle.checks.specs.Checks.{Outcome, Verdict, accepted, refused, checked, bufferChecks}
+use Rattle.checks.specs.Laws.{Hold, accepted-holds, settled-refuses}
 use Rattle.masking.specs.Sharing.{xorAll}
 use Rattle.masking.specs.Signed.{weight, differenceOfWeights}
-use Rattle.sampler.specs.Sampler.{Buffers, both, sampleShare, sampleShares, sampleWords, workLength, pairChecks, sampleChecks, sampled}
+use Rattle.sampler.specs.Sampler.{Buffers, both, sampleShare, sampleShares, sampleWords, workLength, pairChecks, sampleChecks, sharesWritten, sampled}
 use Rattle.sampler.specs.Secrecy.{SharesOf, Samples}
 use Rattle.sampler.specs.Laws.{share-lt, share-local, share-sum}
 use Rattle.sampler.specs.Accepted.{SharedPair, small, shared-pair, pair-large, call-pair}
-use Rattle.sampler.specs.Written.{written-answer, written-out-kept, written-work-kept, written-accepted, written-shares, written-zeros, written-same}
+use Rattle.sampler.specs.Written.{written-out-kept, written-work-kept, written-accepted, written-shares, written-zeros, written-before, written-words}
 
 pub length-shares : (n k q : ℕ) (x y words : List ℕ) → length (sampleShares n k q x y words) ≡ n
 unfolding sampleShares
@@ -88,6 +88,10 @@ module _ (n k q : ℕ) (x y words out work : List ℕ) (h : Hold (sampleChecks n
 -- ---- every call, accepted or refused
 
 module _ (n k q : ℕ) (x y words out work : List ℕ) where
+  pub call-written : sampled n k q x y words out work ≡ sharesWritten (sampleChecks n k q x y words (length out) (length work)) (sampleWords n k) (sampleShares n k q x y words) (workLength n k) out work
+  unfolding sampled
+  call-written = refl
+
   -- output positions past n keep their content
   pub out-kept : drop n (sampled n k q x y words out work .buffers .out) ≡ drop n out
   unfolding sampled
@@ -102,10 +106,8 @@ module _ (n k q : ℕ) (x y words out work : List ℕ) where
   pub words-behind : (words′ : List ℕ) → take (sampleWords n k) words ≡ take (sampleWords n k) words′ → sampled n k q x y words out work ≡ sampled n k q x y words′ out work
   unfolding sampled
   words-behind words′ e =
-      written-same (sampleChecks n k q x y words (length out) (length work)) (sampleWords n k) (sampleShares n k q x y words) (workLength n k) out work
-      (sampleChecks n k q x y words′ (length out) (length work)) (sampleWords n k) (sampleShares n k q x y words′)
+      written-words (pairChecks n k q x y) (sampleWords n k) q n (workLength n k) words words′ (sampleShares n k q x y words) (sampleShares n k q x y words′) out work e
       (λ h. shares-words (call-pair n k q x y words out work h) words words′ e)
-      (ap (λ (cs : List Check). verdict (pairChecks n k q x y ++ (cs ++ roomChecks n (length out) (workLength n k) (length work))) (sampleWords n k)) (words-front (sampleWords n k) q words words′ e))
 
   -- nor on words behind the first 1,792, whatever n and k are
   pub words-most : (words′ : List ℕ) → take 1792 words ≡ take 1792 words′ → sampled n k q x y words out work ≡ sampled n k q x y words′ out work
@@ -126,10 +128,7 @@ module _ (n k q : ℕ) (x y words out work : List ℕ) where
     -- the answer depends on the lengths of output and work area, not on what they held
     pub answer-before : length out ≡ length out′ → length work ≡ length work′ → sampled n k q x y words out work .answer ≡ sampled n k q x y words out′ work′ .answer
     unfolding sampled
-    answer-before e d =
-        written-answer _ (sampleWords n k) (sampleShares n k q x y words) (workLength n k) out work
-        ∙ ap₂ (λ (room area : ℕ). verdict (sampleChecks n k q x y words room area) (sampleWords n k)) e d
-        ∙ sym (written-answer _ (sampleWords n k) (sampleShares n k q x y words) (workLength n k) out′ work′)
+    answer-before = written-before (sampleChecks n k q x y words) (sampleWords n k) (sampleShares n k q x y words) (workLength n k) out work out′ work′
 
     -- nor do the shares
     pub shares-before : Hold (sampleChecks n k q x y words (length out) (length work)) → Hold (sampleChecks n k q x y words (length out′) (length work′))

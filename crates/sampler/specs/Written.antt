@@ -1,12 +1,12 @@
 -- What holds of every call that leaves shares in front of the output and zeros in front of the work area.
-use mathlib.Core.Path.{_≡_, ap, _∙_}
-use mathlib.Core.List.{List}
+use mathlib.Core.Path.{_≡_, sym, ap, ap₂, _∙_}
+use mathlib.Core.List.{List, _++_}
 use Prim.Native.Nat.{ℕ}
 use lib.ListN.{length, take, drop, replicate, length-replicate}
 use Rattle.buffers.specs.Overwrite.{overwrite}
 use Rattle.buffers.specs.Laws.{take-front, drop-front}
-use Rattle.checks.specs.Checks.{Check, Outcome, Verdict, accepted, verdict, settled}
-use Rattle.checks.specs.Laws.{Hold, accepted-holds, settled-accepted, settled-answer, settled-keeps, settled-same}
+use Rattle.checks.specs.Checks.{Check, Outcome, Verdict, accepted, verdict, settled, roomChecks, bufferChecks}
+use Rattle.checks.specs.Laws.{Hold, accepted-holds, settled-accepted, settled-answer, settled-keeps, settled-same, words-front}
 use Rattle.sampler.specs.Sampler.{Buffers, both, sharesWritten}
 
 module _ (checks : List Check) (count : ℕ) (shares : List ℕ) (zeros : ℕ) (out work : List ℕ) where
@@ -16,7 +16,7 @@ module _ (checks : List Check) (count : ℕ) (shares : List ℕ) (zeros : ℕ) (
   abbrev filled : List ℕ → Buffers
   filled s = both (overwrite out 0 s) (overwrite work 0 (replicate zeros 0))
 
-  pub written-answer : o .answer ≡ verdict checks count
+  written-answer : o .answer ≡ verdict checks count
   written-answer = settled-answer (verdict checks count) (both out work) (filled shares)
 
   -- accepted or refused, it keeps what lies behind
@@ -43,3 +43,18 @@ module _ (checks : List Check) (count : ℕ) (shares : List ℕ) (zeros : ℕ) (
   written-same checks′ count′ shares′ s v =
       settled-same (verdict checks count) (both out work) (filled shares) (filled shares′) (λ a e. ap filled (s (accepted-holds count a checks e)))
       ∙ ap (λ (u : Verdict ℕ). settled u (both out work) (filled shares′)) v
+
+-- the answer depends on the lengths of output and work area, not on what they held
+pub written-before : (checks : ℕ → ℕ → List Check) (count : ℕ) (shares : List ℕ) (zeros : ℕ) (out work out′ work′ : List ℕ) → length out ≡ length out′ → length work ≡ length work′
+    → sharesWritten (checks (length out) (length work)) count shares zeros out work .answer ≡ sharesWritten (checks (length out′) (length work′)) count shares zeros out′ work′ .answer
+written-before checks count shares zeros out work out′ work′ e d =
+    written-answer (checks (length out) (length work)) count shares zeros out work ∙ ap₂ (λ (room area : ℕ). verdict (checks room area) count) e d
+    ∙ sym (written-answer (checks (length out′) (length work′)) count shares zeros out′ work′)
+
+-- where the shares do not depend on words behind the first `count`, the outcome does not
+pub written-words : (first : List Check) (count q n zeros : ℕ) (words words′ shares shares′ out work : List ℕ) → take count words ≡ take count words′
+    → (Hold (first ++ bufferChecks count q words n (length out) zeros (length work)) → shares ≡ shares′)
+    → sharesWritten (first ++ bufferChecks count q words n (length out) zeros (length work)) count shares zeros out work ≡ sharesWritten (first ++ bufferChecks count q words′ n (length out) zeros (length work)) count shares′ zeros out work
+written-words first count q n zeros words words′ shares shares′ out work e s =
+    written-same (first ++ bufferChecks count q words n (length out) zeros (length work)) count shares zeros out work _ count shares′ s
+    (ap (λ (cs : List Check). verdict (first ++ (cs ++ roomChecks n (length out) zeros (length work))) count) (words-front count q words words′ e))

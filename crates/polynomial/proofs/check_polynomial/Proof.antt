@@ -8,7 +8,6 @@ use Rattle.checks.specs.Checks.{checked, bufferChecks}
 use Rattle.checks.specs.Laws.{checks-hold, part-passed, part-failed}
 use Rattle.conversion.specs.Conversion.{bitWords}
 use Rattle.sampler.specs.Sampler.{workLength}
-use Rattle.sampler.specs.Accepted.{Small, small}
 use Rattle.polynomial.specs.Accepted.{SmallPolynomial, small-polynomial, SharedStrings, first-pair, shared-strings}
 use Rattle.polynomial.proofs.check_polynomial.Statement.{statement}
 use Rattle.polynomial.proofs.check_polynomial.Tie as tie
@@ -20,11 +19,8 @@ start c = c .before .before .before .before .before .before
 strings : (c : tie.After-enum-told) → let a = start c .args in SharedStrings (a .n) (a .k) (a .q) (a .m) (a .x .now) (a .y .now)
 strings c = shared-strings _ _ _ _ _ _ (checks-hold _ _ (c .before .before .check-strings .ensures) (c .enum-told .given .1))
 
-sizes : (c : tie.After-enum-told) → let a = start c .args in Small (a .n) (a .k)
-sizes c = let p = first-pair (strings c) in small _ _ (p .eight) (p .sixteen)
-
-all-sizes : (c : tie.After-enum-told) → let a = start c .args in SmallPolynomial (a .n) (a .k) (a .m)
-all-sizes c = let p = first-pair (strings c) in small-polynomial _ _ _ (p .eight) (p .sixteen) (strings c .most)
+sizes : (c : tie.After-enum-told) → let a = start c .args in SmallPolynomial (a .n) (a .k) (a .m)
+sizes c = small-polynomial (strings c)
 
 check-strings-requires : tie.Need-check-strings-requires
 check-strings-requires c κs = search needs
@@ -39,31 +35,31 @@ enum-told : tie.Need-enum-told
 enum-told c = search needs
 
 mul-bits : tie.Need-mul-bits
-mul-bits c = omega (arith, sizes c .bits)
+mul-bits c = omega (arith, sizes c .sample .bits)
 
 mul-bits-2 : tie.Need-mul-bits-2
-mul-bits-2 c = omega (arith, all-sizes c .bits)
+mul-bits-2 c = omega (arith, sizes c .bits)
 
 cast-bits : tie.Need-cast-bits
-cast-bits c = omega (arith, all-sizes c .bits)
+cast-bits c = omega (arith, sizes c .bits)
 
 sub-per : tie.Need-sub-per
 sub-per c = omega (arith, first-pair (strings c) .two)
 
 mul-per : tie.Need-mul-per
-mul-per c = omega (arith, sizes c .per)
+mul-per c = omega (arith, sizes c .sample .per)
 
 cast-per : tie.Need-cast-per
-cast-per c = omega (arith, sizes c .per)
+cast-per c = omega (arith, sizes c .sample .per)
 
 mul-check-buffers : tie.Need-mul-check-buffers
-mul-check-buffers c = omega (arith, all-sizes c .shares)
+mul-check-buffers c = omega (arith, sizes c .shares)
 
 mul-check-buffers-2 : tie.Need-mul-check-buffers-2
-mul-check-buffers-2 c = omega (arith, sizes c .bits)
+mul-check-buffers-2 c = omega (arith, sizes c .sample .bits)
 
 mul-check-buffers-3 : tie.Need-mul-check-buffers-3
-mul-check-buffers-3 c = omega (arith, sizes c .rows)
+mul-check-buffers-3 c = omega (arith, sizes c .sample .rows)
 
 check-buffers-requires : tie.Need-check-buffers-requires
 check-buffers-requires c κs = search needs

@@ -9,7 +9,7 @@ use Rattle.checks.specs.Answers.{outcome}
 use Rattle.checks.specs.Laws.{Hold, checks-hold, settles-accepted, settles-refused}
 use Rattle.buffers.specs.Laws.{front-again}
 use Rattle.sampler.specs.Sampler.{workLength, both}
-use Rattle.sampler.specs.Accepted.{Small, small, pair-large}
+use Rattle.sampler.specs.Accepted.{pair-large}
 use Rattle.polynomial.specs.Polynomial.{polynomialWords, polynomialChecks, sampledPolynomial}
 use Rattle.polynomial.specs.Accepted.{SmallPolynomial, small-polynomial, SharedStrings, first-pair, call-strings, call-drawn, call-room}
 use Rattle.polynomial.specs.SecrecyProof.{secrecy}
@@ -29,11 +29,8 @@ holds c = checks-hold _ _ (c .before .before .check-polynomial .ensures) (c .enu
 strings : (c : tie.After-enum-told) → let a = start c .args in SharedStrings (a .n) (a .k) (a .q) (a .m) (a .x .now) (a .y .now)
 strings c = let a = start c .args in call-strings _ _ _ _ _ _ _ (a .out .now) (a .work .now) (holds c)
 
-sizes : (c : tie.After-enum-told) → let a = start c .args in Small (a .n) (a .k)
-sizes c = let p = first-pair (strings c) in small _ _ (p .eight) (p .sixteen)
-
-all-sizes : (c : tie.After-enum-told) → let a = start c .args in SmallPolynomial (a .n) (a .k) (a .m)
-all-sizes c = let p = first-pair (strings c) in small-polynomial _ _ _ (p .eight) (p .sixteen) (strings c .most)
+sizes : (c : tie.After-enum-told) → let a = start c .args in SmallPolynomial (a .n) (a .k) (a .m)
+sizes c = small-polynomial (strings c)
 
 check-polynomial-requires : tie.Need-check-polynomial-requires
 check-polynomial-requires c κs = search needs
@@ -67,10 +64,10 @@ write-coefficients-requires c κs =
     )
 
 mul-zero : tie.Need-mul-zero
-mul-zero c = omega (arith, sizes (c .before .before .before .before .before .before .before .before) .bits)
+mul-zero c = omega (arith, sizes (c .before .before .before .before .before .before .before .before) .sample .bits)
 
 mul-zero-2 : tie.Need-mul-zero-2
-mul-zero-2 c = omega (arith, sizes (c .before .before .before .before .before .before .before .before) .rows)
+mul-zero-2 c = omega (arith, sizes (c .before .before .before .before .before .before .before .before) .sample .rows)
 
 zero-requires : tie.Need-zero-requires
 zero-requires c κs =
@@ -80,19 +77,19 @@ zero-requires c κs =
     search needs
 
 mul-t12 : tie.Need-mul-t12
-mul-t12 c = omega (arith, sizes (passed c) .bits)
+mul-t12 c = omega (arith, sizes (passed c) .sample .bits)
 
 sub-t13 : tie.Need-sub-t13
 sub-t13 c = omega (arith, first-pair (strings (passed c)) .two)
 
 mul-t21 : tie.Need-mul-t21
-mul-t21 c = omega (arith, sizes (passed c) .per)
+mul-t21 c = omega (arith, sizes (passed c) .sample .per)
 
 mul-t22 : tie.Need-mul-t22
-mul-t22 c = omega (arith, sizes (passed c) .words)
+mul-t22 c = omega (arith, sizes (passed c) .sample .words)
 
 mul-t23 : tie.Need-mul-t23
-mul-t23 c = omega (arith, all-sizes (passed c) .words)
+mul-t23 c = omega (arith, sizes (passed c) .words)
 
 same-length : tie.Need-same-length
 same-length c = search needs
