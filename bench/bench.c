@@ -36,7 +36,7 @@ static void run_inputs(const contestant *who, const call *calls, size_t inputs, 
             run_call(who, &calls[i], o.out, o.work);
 }
 
-/* Nanoseconds a coefficient. The stack begins at a random place of a page, so that nobody's time hangs on one layout. */
+/* Nanoseconds a coefficient. The stack begins at a random place of a page, so that no time depends on one layout. */
 static double time_inputs(const contest *in, size_t who, const call *calls, size_t passes)
 {
     volatile char skipped[random_within(1, 4096)];
