@@ -67,8 +67,8 @@ CALL(size_t n, size_t k, uint16_t q, COEFFICIENTS const uint16_t *x, size_t x_le
             convert_bit((t < k ? x : y) + c * n, t < k ? t : t - k, n, q, words + (c * 2 * k + t) * n * (n - 1), work + t * n);
         for (size_t i = 0; i < n; i++)
             out[c * n + i] = column_share(work, n, k, q, i);
-        memset(work, 0, 2 * k * n * sizeof *work);
     }
+    memset(work, 0, 2 * k * n * sizeof *work);
     return checked;
 }
 
