@@ -9,7 +9,7 @@ use native.Mathlib.Decide.{decLt, ℕ-discrete}
 use native.Mathlib.Omega.{arith}
 use borrow.Author.Tests.{lt-ltb, le-ltb}
 use lib.ListN.{length, set, take, drop, length-drop, List·getD-eq-default}
-use lib.Seq.{getD-set-same, getD-set-other, getD-drop, take-all}
+use lib.Seq.{getD-set-same, getD-set-other, getD-take, getD-drop, take-all}
 use Rattle.residue.specs.Residue.{EachBelow}
 use Rattle.buffers.specs.Overwrite.{overwrite}
 use Rattle.buffers.specs.Laws.{front-below}
@@ -21,11 +21,8 @@ after-zero f = fun-ext (λ i. ap f (N.zero-add i))
 pub after-after : (m n : ℕ) (f : ℕ → ℕ) → after n (after m f) ≡ after (m + n) f
 after-after m n f = fun-ext (λ i. ap f (omega arith))
 
--- the part of a list from position n on
-pub part-after : (n : ℕ) (l : List ℕ) → at (take (length l - n) (drop n l)) ≡ after n (at l)
-part-after n l =
-    let e : take (length l - n) (drop n l) ≡ drop n l = take-all (length l - n) (drop n l) (omega (arith, length-drop n l)) in
-    fun-ext (λ i. ap (λ (p : List ℕ). at p i) e ∙ getD-drop n l i 0)
+pub drop-after : (n : ℕ) (l : List ℕ) → at (drop n l) ≡ after n (at l)
+drop-after n l = fun-ext (λ i. getD-drop n l i 0)
 
 module _ (n : ℕ) (f g : ℕ → ℕ) where
   pub join-below : (j : ℕ) → j < n → join n f g j ≡ f j
@@ -93,6 +90,9 @@ set-agrees l i v f h e j a = go (ℕ-discrete j i)
     go (no d) = getD-set-other l i j v 0 d ∙ a d
 
 -- ---- the front of a list
+
+pub take-same : (n : ℕ) (l m : List ℕ) → take n l ≡ take n m → Same n (at l) (at m)
+take-same n l m e i h = sym (getD-take n l i 0 h) ∙ ap (λ (r : List ℕ). at r i) e ∙ getD-take n m i 0 h
 
 -- a list that was copied to the front of another, none of it cut off
 pub front-same : (l s t : List ℕ) (n : ℕ) → t ≡ overwrite l 0 (take n s) → length s ≤ n → Same (length s) (at t) (at s)

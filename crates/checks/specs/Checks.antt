@@ -4,8 +4,8 @@ use mathlib.Core.List.{List, [], _∷_, _++_}
 use mathlib.Core.Option.{Option, none, some}
 use Prim.Native.Nat.{ℕ, _+_, _*_, _^_}
 use lib.Dec.{leb, ltb, eqb}
-use lib.ListN.{length, take}
-use Rattle.checks.specs.Search.{firstNotBelow}
+use lib.ListN.{length, take, drop}
+use Rattle.checks.specs.Search.{firstFrom}
 
 -- A check: whether it holds, and the number and the position (the page's 'place') of the refusal where it does not.
 pub record Check : Type 0 where
@@ -71,9 +71,12 @@ abbrev pub orZero : Option ℕ → ℕ
 orZero none = 0
 orZero (some i) = i
 
--- every word of the list is below the limit; the position is that of the first that is not
+-- every word of the list, which begins at position `start`, is below the limit; the position is that of the first that is not
+abbrev pub allBelowFrom : ℕ → ℕ → ℕ → List ℕ → Check
+allBelowFrom code limit start l = record { holds = isNone (firstFrom limit start l); code = code; position = orZero (firstFrom limit start l) }
+
 abbrev pub allBelow : ℕ → ℕ → List ℕ → Check
-allBelow code limit l = record { holds = isNone (firstNotBelow limit l); code = code; position = orZero (firstNotBelow limit l) }
+allBelow code limit l = allBelowFrom code limit 0 l
 
 -- every share of the list has zero at bit k and above
 abbrev pub narrow : ℕ → ℕ → List ℕ → Check
@@ -91,14 +94,14 @@ parameterChecks n k q = shareCount n ∷ stringLength k ∷ modulusAtLeast (2 * 
 abbrev pub shareChecks : ℕ → ℕ → List ℕ → List ℕ → List Check
 shareChecks count k x y = exactly 4 count x ∷ exactly 5 count y ∷ narrow 6 k x ∷ narrow 7 k y ∷ []
 
--- 8 and 9: there are at least `count` words, and the first `count` of them are below q
-abbrev pub wordChecks : ℕ → ℕ → List ℕ → List Check
-wordChecks count q words = atLeast 8 count (length words) ∷ allBelow 9 q (take count words) ∷ []
+-- 8 and 9: there are at least `start` plus `count` words, and the `count` from `start` on are below q
+abbrev pub wordChecks : ℕ → ℕ → ℕ → List ℕ → List Check
+wordChecks start count q words = atLeast 8 (start + count) (length words) ∷ allBelowFrom 9 q start (take count (drop start words)) ∷ []
 
 -- 10 and 11: room in the output for so many shares, and in the work area for so many words
 abbrev pub roomChecks : ℕ → ℕ → ℕ → ℕ → List Check
 roomChecks shares room rows area = atLeast 10 shares room ∷ atLeast 11 rows area ∷ []
 
 -- 8 to 11
-abbrev pub bufferChecks : ℕ → ℕ → List ℕ → ℕ → ℕ → ℕ → ℕ → List Check
-bufferChecks count q words shares room rows area = wordChecks count q words ++ roomChecks shares room rows area
+abbrev pub bufferChecks : ℕ → ℕ → ℕ → List ℕ → ℕ → ℕ → ℕ → ℕ → List Check
+bufferChecks start count q words shares room rows area = wordChecks start count q words ++ roomChecks shares room rows area

@@ -8,13 +8,13 @@ use native.Mathlib.Nat.{le-of-suc-le-suc}
 use native.Mathlib.Numerals.{add-one}
 use native.Mathlib.Decide.{decLe}
 use native.Mathlib.Omega.{arith}
-use borrow.Author.Tests.{leb-true, le-leb, ltb-true, lt-ltb, le-ltb, not-true, not-false}
+use borrow.Author.Tests.{leb-true, le-leb, lt-leb, ltb-true, lt-ltb, le-ltb, not-true, not-false}
 use lib.Dec.{leb, ltb}
-use lib.ListN.{length, getD, take, drop, length-take, drop-of-length-le}
-use lib.Seq.{take-all, drop-cons}
+use lib.ListN.{length, getD, take, drop, length-take, length-drop, drop-of-length-le}
+use lib.Seq.{drop-cons}
 use Rattle.residue.specs.Residue.{EachBelow}
-use Rattle.checks.specs.Search.{firstFrom, firstNotBelow}
-use Rattle.checks.specs.Checks.{Check, Verdict, accepted, refused, verdict, checked, settled, within, isNone, orZero, allBelow, wordChecks}
+use Rattle.checks.specs.Search.{firstFrom}
+use Rattle.checks.specs.Checks.{Check, Verdict, accepted, refused, verdict, checked, settled, within, isNone, orZero, allBelowFrom, wordChecks}
 use Rattle.checks.specs.Answers.{checkedReading, refusalReading, foundReading}
 use Rattle.checks.specs.declared.Refusal.{Refusal}
 use Rattle.checks.specs.declared.Checked.{Checked}
@@ -24,26 +24,26 @@ use Rattle.checks.specs.declared.Found.the-variants.{At, Nothing}
 
 -- ---- a search that goes from element to element
 
--- it came as far as position i
-unfoldable pub Searched : ℕ → List ℕ → ℕ → Type 0
-Searched limit l i = firstNotBelow limit l ≡ firstFrom limit i (drop i l)
+-- in a list that begins at position `start`, it came past the first i, to position p
+unfoldable pub Searched : ℕ → ℕ → List ℕ → ℕ → ℕ → Type 0
+Searched limit start l i p = firstFrom limit start l ≡ firstFrom limit p (drop i l)
 
-module _ (limit : ℕ) (l : List ℕ) where
-  pub search-begins : Searched limit l 0
+module _ (limit start : ℕ) (l : List ℕ) where
+  pub search-begins : Searched limit start l 0 start
   unfolding Searched
   search-begins = refl
 
-  pub search-passes : (i : ℕ) → i < length l → getD l i 0 < limit → Searched limit l i → Searched limit l (i + 1)
+  pub search-passes : (i p : ℕ) → i < length l → getD l i 0 < limit → Searched limit start l i p → Searched limit start l (i + 1) (p + 1)
   unfolding Searched firstFrom
-  search-passes i h s e = e ∙ ap (firstFrom limit i) (drop-cons l i 0 h) ∙ rw (lt-ltb (getD l i 0) limit s, add-one i)
+  search-passes i p h s e = e ∙ ap (firstFrom limit p) (drop-cons l i 0 h) ∙ rw (lt-ltb (getD l i 0) limit s, add-one i, add-one p)
 
-  pub search-finds : (i : ℕ) → i < length l → limit ≤ getD l i 0 → Searched limit l i → firstNotBelow limit l ≡ some i
+  pub search-finds : (i p : ℕ) → i < length l → limit ≤ getD l i 0 → Searched limit start l i p → firstFrom limit start l ≡ some p
   unfolding Searched firstFrom
-  search-finds i h s e = e ∙ ap (firstFrom limit i) (drop-cons l i 0 h) ∙ rw (le-ltb (getD l i 0) limit s)
+  search-finds i p h s e = e ∙ ap (firstFrom limit p) (drop-cons l i 0 h) ∙ rw (le-ltb (getD l i 0) limit s)
 
-  pub search-ends : (i : ℕ) → length l ≤ i → Searched limit l i → firstNotBelow limit l ≡ none
+  pub search-ends : (i p : ℕ) → length l ≤ i → Searched limit start l i p → firstFrom limit start l ≡ none
   unfolding Searched firstFrom
-  search-ends i h e = e ∙ ap (firstFrom limit i) (drop-of-length-le l h)
+  search-ends i p h e = e ∙ ap (firstFrom limit p) (drop-of-length-le l h)
 
 -- ---- what a search that finds nothing says
 
@@ -63,7 +63,16 @@ module _ (limit : ℕ) where
   each-below-none [] s h = refl
   each-below-none (x ∷ l) s h = rw (lt-ltb x limit (h 0 (omega arith))) (each-below-none l (suc s) (λ i m. h (suc i) (suc-le-suc m)))
 
--- ---- tests of two parts
+-- ---- tests that say the same, and tests of two parts
+
+pub leb-same : (a b c d : ℕ) → (a ≤ b → c ≤ d) → (c ≤ d → a ≤ b) → leb a b ≡ leb c d
+leb-same a b c d f g = go (decLe a b)
+  where
+    go : Dec (a ≤ b) → leb a b ≡ leb c d
+    go (yes h) = le-leb a b h ∙ sym (le-leb c d (f h))
+    go (no h) =
+        let l : c ≤ d → ⊥ = λ m. h (g m) in
+        lt-leb a b (omega arith) ∙ sym (lt-leb c d (omega arith))
 
 pub and-true : (s t : Bool) → s && t ≡ true → (s ≡ true) × (t ≡ true)
 and-true true t e = (refl, e)
@@ -94,11 +103,11 @@ module _ {A : Type 0} (a : A) where
   unfolding verdict
   fail c cs h = rw h
 
-  pub pass-none : (code limit : ℕ) (l : List ℕ) (cs : List Check) → firstNotBelow limit l ≡ none → verdict (allBelow code limit l ∷ cs) a ≡ verdict cs a
-  pass-none code limit l cs h = pass (allBelow code limit l) cs (ap isNone h)
+  pub pass-none : (code limit start : ℕ) (l : List ℕ) (cs : List Check) → firstFrom limit start l ≡ none → verdict (allBelowFrom code limit start l ∷ cs) a ≡ verdict cs a
+  pass-none code limit start l cs h = pass (allBelowFrom code limit start l) cs (ap isNone h)
 
-  pub fail-some : (code limit : ℕ) (l : List ℕ) (cs : List Check) (i : ℕ) → firstNotBelow limit l ≡ some i → verdict (allBelow code limit l ∷ cs) a ≡ refused code i
-  fail-some code limit l cs i h = fail (allBelow code limit l) cs (ap isNone h) ∙ ap (refused code) (ap orZero h)
+  pub fail-some : (code limit start : ℕ) (l : List ℕ) (cs : List Check) (i : ℕ) → firstFrom limit start l ≡ some i → verdict (allBelowFrom code limit start l ∷ cs) a ≡ refused code i
+  fail-some code limit start l cs i h = fail (allBelowFrom code limit start l) cs (ap isNone h) ∙ ap (refused code) (ap orZero h)
 
   pub pass-all : verdict [] a ≡ accepted a
   unfolding verdict
@@ -231,6 +240,14 @@ settled-accepted {A} a cs before after h = ap (λ (v : Verdict A). settled v bef
 pub settled-refuses : {A B : Type 0} (a : A) (cs ds : List Check) (before after : B) (code position : ℕ) → checked cs ≡ refused code position → settled (verdict (cs ++ ds) a) before after ≡ record { answer = refused code position; buffers = before }
 settled-refuses {A} a cs ds before after code position e = ap (λ (v : Verdict A). settled v before after) (refuses tt a code position cs ds e)
 
+-- where the first checks hold, what is behind them and what the call would write matter, and else neither does
+pub settled-behind : {A B : Type 0} (a : A) (cs ds es : List Check) (before s t : B) → (Hold cs → (ds ≡ es) × (s ≡ t)) → settled (verdict (cs ++ ds) a) before s ≡ settled (verdict (cs ++ es) a) before t
+settled-behind {A} {B} a cs ds es before s t e = go (checked cs) refl
+  where
+    go : (v : Verdict Unit) → checked cs ≡ v → settled (verdict (cs ++ ds) a) before s ≡ settled (verdict (cs ++ es) a) before t
+    go (accepted u) h = let f = e (accepted-holds tt u cs h) in ap₂ (λ (fs : List Check) (b : B). settled (verdict (cs ++ fs) a) before b) (f .0) (f .1)
+    go (refused code position) h = settled-refuses a cs ds before s code position h ∙ sym (settled-refuses a cs es before t code position h)
+
 -- what an accepted call keeps, every call keeps
 pub settled-keeps : {A B C : Type 0} (v : Verdict A) (before after : B) (view : B → C) → view after ≡ view before → view (settled v before after .buffers) ≡ view before
 settled-keeps (accepted a) before after view e = e
@@ -241,18 +258,17 @@ pub settled-same : {A B : Type 0} (v : Verdict A) (before s t : B) → ((a : A) 
 settled-same (accepted a) before s t e = ap (settled (accepted a) before) (e a refl)
 settled-same (refused c p) before s t e = refl
 
--- checks 8 and 9 look at the first `count` words only
-pub words-front : (count q : ℕ) (words words′ : List ℕ) → take count words ≡ take count words′ → wordChecks count q words ≡ wordChecks count q words′
-words-front count q words words′ e =
-    let l : leb count (length words) ≡ leb count (length words′) = front words ∙ ap (λ (l : List ℕ). leb count (length l)) e ∙ sym (front words′) in
-    ap₂ (λ (b : Bool) (l : List ℕ). record { holds = b; code = 8; position = 0 } ∷ allBelow 9 q l ∷ []) l e
+-- where there are words to judge, checks 8 and 9 look at the `count` from `start` on only
+pub words-around : (start count q : ℕ) → 0 < count → (words words′ : List ℕ) → take count (drop start words) ≡ take count (drop start words′) → wordChecks start count q words ≡ wordChecks start count q words′
+words-around start count q above words words′ e =
+    let l : leb (start + count) (length words) ≡ leb (start + count) (length words′) = judged words ∙ ap (λ (l : List ℕ). leb count (length l)) e ∙ sym (judged words′) in
+    ap₂ (λ (b : Bool) (l : List ℕ). record { holds = b; code = 8; position = 0 } ∷ allBelowFrom 9 q start l ∷ []) l e
   where
-    front : (l : List ℕ) → leb count (length l) ≡ leb count (length (take count l))
-    front l = go (decLe count (length l))
-      where
-        go : Dec (count ≤ length l) → leb count (length l) ≡ leb count (length (take count l))
-        go (yes h) = le-leb count (length l) h ∙ sym (le-leb count (length (take count l)) (omega (arith, length-take count l)))
-        go (no h) = ap (λ (m : List ℕ). leb count (length m)) (sym (take-all count l (omega arith)))
+    judged : (l : List ℕ) → leb (start + count) (length l) ≡ leb count (length (take count (drop start l)))
+    judged l =
+        let m = length-take count (drop start l) in
+        let d = length-drop start l in
+        leb-same (start + count) (length l) count (length (take count (drop start l))) (λ h. omega arith) (λ h. omega arith)
 
 -- ---- what a call learns from its checks
 

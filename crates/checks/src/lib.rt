@@ -1,10 +1,10 @@
 // Why a call is refused, and the tests that several calls share.
 use residue::Word;
 ghost use mathlib.Core.Path.{_≡_};
-ghost use Prim.Native.Nat.{_*_, _^_, _≤_};
-ghost use lib.Dec.{ltb};
-ghost use lib.ListN.{length, take};
-ghost use Rattle.checks.specs.Search.{firstNotBelow};
+ghost use Prim.Native.Nat.{_+_, _*_, _^_, _≤_};
+ghost use lib.Dec.{leb, ltb};
+ghost use lib.ListN.{length, take, drop};
+ghost use Rattle.checks.specs.Search.{firstFrom, firstNotBelow};
 ghost use Rattle.checks.specs.Checks.{refused, checked, within, parameterChecks, shareChecks, wordChecks, bufferChecks};
 ghost use Rattle.checks.specs.Answers.{foundReading, checkedReading};
 
@@ -172,13 +172,13 @@ pub fn check_shares(count: usize, k: usize, x: &[u16], y: &[u16]) -> Checked
     Checked::Passed
 }
 
-// The first of the words that is not below q, going over the bits and, within a bit, over its words.
-pub fn first_not_below(words: &[Word], bits: usize, per: usize, q: Word) -> Found
-    requires { ⌜ bits * per ≤ length (now words) ⌝ }
-    ensures { λ r. ⌜ foundReading r ≡ firstNotBelow q (take (bits * per) (now (words .entry))) ⌝ }
+// The first of the words from `start` on that is not below q, going over the bits and, within a bit, over its words.
+pub fn first_not_below(words: &[Word], start: usize, bits: usize, per: usize, q: Word) -> Found
+    requires { ⌜ start + bits * per ≤ length (now words) ⌝ }
+    ensures { λ r. ⌜ foundReading r ≡ firstFrom q start (take (bits * per) (drop start (now (words .entry)))) ⌝ }
 {
     let mut found = Found::Nothing;
-    let mut at = 0;
+    let mut at = start;
     'bits: for b in 0..bits {
         for i in 0..per {
             if words[at] >= q {
@@ -191,23 +191,36 @@ pub fn first_not_below(words: &[Word], bits: usize, per: usize, q: Word) -> Foun
     found
 }
 
-// Checks 8 and 9 of a call that takes `per` words for each of its bits. Both numbers have 32 bits, so that their product fits a usize.
-pub fn check_words(words: &[Word], bits: u32, per: u32, q: Word) -> Checked
-    ensures { λ r. ⌜ checkedReading r ≡ checked (wordChecks (bits * per) q (now (words .entry))) ⌝ }
+// start + count ≤ length, also where the sum is too large for a usize.
+fn has_room(start: usize, count: usize, length: usize) -> bool
+    ensures { λ r. ⌜ r ≡ leb (start + count) length ⌝ }
 {
-    if words.len() < (bits as usize) * (per as usize) {
+    if length < start {
+        false
+    } else {
+        count <= length - start
+    }
+}
+
+// Checks 8 and 9 of a call that takes `per` words from `start` on for each of its bits. Both numbers have 32 bits, so that their product fits
+// a usize.
+pub fn check_words(words: &[Word], start: usize, bits: u32, per: u32, q: Word) -> Checked
+    ensures { λ r. ⌜ checkedReading r ≡ checked (wordChecks start (bits * per) q (now (words .entry))) ⌝ }
+{
+    if !has_room(start, (bits as usize) * (per as usize), words.len()) {
         return refuse(WORD_COUNT, 0);
     }
-    if let Found::At(i) = first_not_below(words, bits as usize, per as usize, q) {
+    if let Found::At(i) = first_not_below(words, start, bits as usize, per as usize, q) {
         return refuse(WORD_RANGE, i);
     }
     Checked::Passed
 }
 
-// Checks 8 to 11: the words of a call that takes `per` for each of its bits, room in the output for `shares` words, and in the work area
-// for `rows`.
+// Checks 8 to 11: the words of a call that takes `per` from `start` on for each of its bits, room in the output for `shares` words, and in
+// the work area for `rows`.
 pub fn check_buffers(
     words: &[Word],
+    start: usize,
     bits: u32,
     per: u32,
     q: Word,
@@ -216,9 +229,9 @@ pub fn check_buffers(
     rows: usize,
     area: usize,
 ) -> Checked
-    ensures { λ r. ⌜ checkedReading r ≡ checked (bufferChecks (bits * per) q (now (words .entry)) shares room rows area) ⌝ }
+    ensures { λ r. ⌜ checkedReading r ≡ checked (bufferChecks start (bits * per) q (now (words .entry)) shares room rows area) ⌝ }
 {
-    if let Checked::Failed(r) = check_words(words, bits, per, q) {
+    if let Checked::Failed(r) = check_words(words, start, bits, per, q) {
         return Checked::Failed(r);
     }
     if room < shares {

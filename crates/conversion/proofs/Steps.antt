@@ -4,8 +4,8 @@ use mathlib.Core.List.{List}
 use Prim.Native.Nat.{ℕ, zero, suc, _+_, _-_, _*_, _≤_, _<_}
 use native.Mathlib.Nat as N
 use native.Mathlib.Omega.{arith}
-use lib.ListN.{length, set, replicate, length-set}
-use lib.Seq.{getD-set-other}
+use lib.ListN.{length, set, drop, replicate, length-set}
+use lib.Seq.{getD-set-other, getD-drop}
 use Rattle.residue.specs.Residue.{sub, neg, add, sum, cswapSub}
 use Rattle.residue.specs.Laws.{reduce-small, reduce-lt, reduce-add, add-zero, add-comm, add-assoc, add-lt, neg-sub, sub-zero}
 use Rattle.residue.specs.Sum.{running-none, running-next, running-all, sum-last, sum-lt}
@@ -83,6 +83,10 @@ module _ (q j bit : ℕ) (A r : ℕ → ℕ) where
       none e = unfold sum in rw e
 
 -- ---- steps 1 and 2
+
+pub pairs-one : pairs 1 ≡ 0
+unfolding pairs
+pairs-one = refl
 
 pub pairs-step : (n k : ℕ) → n ≡ suc k → pairs n ≡ pairs k + k
 unfolding pairs
@@ -208,7 +212,8 @@ module _ (q : ℕ) (w : ℕ → ℕ) where
 -- ---- one bit alone
 
 -- Its shares, which stand in front of the array, are their own lowest bits.
-pub bit-alone : (n q : ℕ) (bits words array : List ℕ) → 2 < q → 1 ≤ n → Below 2 n (at bits) → Same n (at array) (at bits) → table n (convertBit q n (bitsAt (at array) 0) (after 0 (at words))) ≡ bitShares n q bits words
+pub bit-alone : (n q : ℕ) (bits words : List ℕ) (start : ℕ) (array : List ℕ) → 2 < q → 1 ≤ n → Below 2 n (at bits) → Same n (at array) (at bits)
+    → table n (convertBit q n (bitsAt (at array) 0) (after start (at words))) ≡ bitShares n q bits (drop start words)
 unfolding bitShares
-bit-alone n q bits words array large h below same =
-    table-same n _ _ (convertBit-local q n (bitsAt (at array) 0) (at bits) _ _ (omega (arith, bit-lt (at array 0) 0)) (omega (arith, below 0 h)) (λ i l. rw (same i l) (bit-lowest (at bits i) ∙ omega (arith, below i l))) (λ j l. ap (at words) (omega arith)))
+bit-alone n q bits words start array large h below same =
+    table-same n _ _ (convertBit-local q n (bitsAt (at array) 0) (at bits) _ _ (omega (arith, bit-lt (at array 0) 0)) (omega (arith, below 0 h)) (λ i l. rw (same i l) (bit-lowest (at bits i) ∙ omega (arith, below i l))) (λ j l. sym (getD-drop start words j 0)))

@@ -34,21 +34,24 @@ module _ (n q : ℕ) (bits : List ℕ) where
         below = λ i l. none-each-below 2 bits 0 (h .1 .1 .1 .0) i (omega arith);
       }
 
-  module _ (words : List ℕ) (room : ℕ) where
-    pub call-sharing : Hold (bitChecks n q bits words room) → SharedBit n q bits
-    call-sharing h = shared-bit (hold-front (sharingChecks n q bits) (bufferChecks n q words room) h)
+  module _ (words : List ℕ) (start room : ℕ) where
+    abbrev Passes : Type 0
+    Passes = Hold (bitChecks n q bits words start room)
 
-    buffers : Hold (bitChecks n q bits words room) → Hold (bufferChecks n q words room)
-    buffers h = hold-rest (sharingChecks n q bits) (bufferChecks n q words room) h
+    pub call-sharing : Passes → SharedBit n q bits
+    call-sharing h = shared-bit (hold-front (sharingChecks n q bits) (bufferChecks n q words start room) h)
 
-    pub call-room : Hold (bitChecks n q bits words room) → n ≤ room
+    buffers : Passes → Hold (bufferChecks n q words start room)
+    buffers h = hold-rest (sharingChecks n q bits) (bufferChecks n q words start room) h
+
+    pub call-room : Passes → n ≤ room
     call-room h = leb-true _ _ (buffers h .1 .1 .0)
 
-    pub call-drawn : Hold (bitChecks n q bits words room) → Drawn q 0 (bitWords n) words
-    call-drawn h = words-drawn q (bitWords n) words (hold-front (wordChecks (bitWords n) q words) (atLeast 10 n room ∷ []) (buffers h))
+    pub call-drawn : Passes → Drawn q start (bitWords n) words
+    call-drawn h = words-drawn q start (bitWords n) words (hold-front (wordChecks start (bitWords n) q words) (atLeast 10 n room ∷ []) (buffers h))
 
     -- with enough words below q, and room, a shared bit is accepted
-    pub call-holds : Hold (sharingChecks n q bits) → Drawn q 0 (bitWords n) words → n ≤ room → Hold (bitChecks n q bits words room)
+    pub call-holds : Hold (sharingChecks n q bits) → Drawn q start (bitWords n) words → n ≤ room → Passes
     call-holds h d r =
-        hold-both (sharingChecks n q bits) (bufferChecks n q words room) h
-        (hold-both (wordChecks (bitWords n) q words) (atLeast 10 n room ∷ []) (drawn-words q (bitWords n) words d) (le-leb _ _ r, tt))
+        hold-both (sharingChecks n q bits) (bufferChecks n q words start room) h
+        (hold-both (wordChecks start (bitWords n) q words) (atLeast 10 n room ∷ []) (drawn-words q start (bitWords n) words d) (le-leb _ _ r, tt))

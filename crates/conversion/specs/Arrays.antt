@@ -1,18 +1,16 @@
 -- What the functions below the call ask of their arguments, and what their arrays hold.
-use mathlib.Core.Path.{_≡_, sym, ap, subst, _∙_}
-use mathlib.Core.List.{List}
-use Prim.Native.Nat.{ℕ, _+_, _-_, _^_, _≤_, _<_}
-use native.Mathlib.Nat as N
+use mathlib.Core.Path.{_≡_, ap, _∙_}
+use mathlib.Core.List.{List, _++_}
+use Prim.Native.Nat.{ℕ, _+_, _^_, _≤_, _<_}
 use native.Mathlib.Omega.{arith}
 use borrow.Author.Tests.{leb-true, le-leb}
-use lib.ListN.{length, take, drop, length-take, length-drop}
-use lib.Seq.{getD-take, length-take-le}
+use lib.ListN.{length, take, drop, length-append, length-take, length-drop, List·getD-append}
+use lib.Seq.{getD-append-add, getD-take, getD-drop}
 use Rattle.residue.specs.Residue.{EachBelow}
 use Rattle.buffers.specs.Positions.{at, after, Same, Below}
-use Rattle.buffers.specs.PositionLaws.{after-zero, part-after}
 use Rattle.checks.specs.Checks.{isNone, wordChecks}
 use Rattle.checks.specs.Laws.{Hold, none-each-below, each-below-none}
-use Rattle.secrecy.specs.Secrecy.{Full}
+use Rattle.secrecy.specs.Secrecy.{Full, inside}
 
 -- eight words, of which the first n are those of f
 pub record Holds (n : ℕ) (f : ℕ → ℕ) (a : List ℕ) : Type 0 where
@@ -34,34 +32,35 @@ pub drawn-part : {q start count : ℕ} {words : List ℕ} (s skipped n : ℕ) �
 drawn-part {start = start} s skipped n e h d =
     record { room = omega (arith, d .room); below = λ i l. let k : s + i ≡ start + (skipped + i) = omega arith in rw k (d .below (skipped + i) (omega arith)) }
 
--- a list that is lent from `start` on
-pub drawn-behind : {q count : ℕ} (start : ℕ) (words : List ℕ) → Drawn q start count words → Drawn q 0 count (take (length words - start) (drop start words))
-drawn-behind {q} {count} start words d =
-    record {
-      room = omega (arith, d .room, length-drop start words, length-take (length words - start) (drop start words));
-      below = subst (Below q count) (sym (after-zero _ ∙ part-after start words)) (d .below);
-    }
-
 -- words that pass checks 8 and 9, and the reverse
-pub words-drawn : (q count : ℕ) (words : List ℕ) → Hold (wordChecks count q words) → Drawn q 0 count words
-words-drawn q count words h =
-    let e : count ≤ length words = leb-true _ _ (h .0) in
-    let m = length-take-le count words e in
-    record {
-      room = omega arith;
-      below = λ i l. rw (N.zero-add i, ← getD-take count words i 0 l) (none-each-below q (take count words) 0 (h .1 .0) i (omega arith));
-    }
+module _ (q start count : ℕ) (words : List ℕ) where
+  taken-at : (i : ℕ) → i < count → at (take count (drop start words)) i ≡ at words (start + i)
+  taken-at i l = getD-take count (drop start words) i 0 l ∙ getD-drop start words i 0
 
-pub drawn-words : (q count : ℕ) (words : List ℕ) → Drawn q 0 count words → Hold (wordChecks count q words)
-drawn-words q count words d = (le-leb _ _ e, (ap isNone (each-below-none q (take count words) 0 below), tt))
-  where
-    e : count ≤ length words
-    e = omega (arith, d .room)
+  pub words-drawn : Hold (wordChecks start count q words) → Drawn q start count words
+  words-drawn h =
+      let e : start + count ≤ length words = leb-true _ _ (h .0) in
+      let m = length-take count (drop start words) in
+      let d = length-drop start words in
+      record { room = e; below = λ i l. rw (← taken-at i l) (none-each-below q (take count (drop start words)) start (h .1 .0) i (omega arith)) }
 
-    below : EachBelow q (take count words)
-    below i l =
-        let m : i < count = omega (arith, length-take-le count words e) in
-        rw (getD-take count words i 0 m) (rw N.zero-add at (d .below i m))
+  pub drawn-words : Drawn q start count words → Hold (wordChecks start count q words)
+  drawn-words d = (le-leb _ _ (d .room), (ap isNone (each-below-none q (take count (drop start words)) start below), tt))
+    where
+      below : EachBelow q (take count (drop start words))
+      below i l =
+          let m : i < count = omega (arith, length-take count (drop start words)) in
+          rw (taken-at i m) (d .below i m)
 
+-- a full list, alone and between others
 pub full-drawn : {q count : ℕ} {words : List ℕ} → Full q count words → Drawn q 0 count words
 full-drawn f = record { room = omega (arith, f .count); below = λ i l. f .below (0 + i) (omega (arith, f .count)) }
+
+pub inside-drawn : {q count : ℕ} {words : List ℕ} → Full q count words → (before behind : List ℕ) → Drawn q (length before) count (inside before words behind)
+inside-drawn {q} {count} {words} f before behind =
+    let e = length-append before (words ++ behind) in
+    let d = length-append words behind in
+    record {
+      room = omega (arith, f .count);
+      below = λ i l. rw (getD-append-add before (words ++ behind) i 0, List·getD-append words behind 0 i (omega (arith, f .count))) (f .below i (omega (arith, f .count)));
+    }

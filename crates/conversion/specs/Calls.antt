@@ -1,24 +1,25 @@
--- What holds of every accepted call.
+-- What holds of every call.
 use mathlib.Core.Path.{_≡_, refl, sym, ap, _∙_}
-use mathlib.Core.List.{List}
-use Prim.Native.Nat.{ℕ, _<_}
+use mathlib.Core.List.{List, [], _∷_, _++_}
+use Prim.Native.Nat.{ℕ, _+_, _<_}
+use native.Mathlib.Nat.{le-refl}
 use native.Mathlib.Omega.{arith}
-use lib.ListN.{length, take}
-use lib.Seq.{getD-take}
+use lib.ListN.{length, take, drop}
+use lib.Seq.{take-take}
 use Rattle.residue.specs.Residue.{reduce, total, EachBelow}
 use Rattle.residue.specs.Laws.{reduce-small}
 use Rattle.residue.specs.Sum.{sum-cong, sum-list}
 use Rattle.buffers.specs.Overwrite.{overwrite}
-use Rattle.buffers.specs.Laws.{take-front, front-below}
+use Rattle.buffers.specs.Laws.{take-front}
 use Rattle.buffers.specs.Positions.{at}
-use Rattle.buffers.specs.PositionLaws.{length-table, table-at, table-below, table-same, table-list}
-use Rattle.checks.specs.Checks.{Outcome, accepted}
-use Rattle.checks.specs.Laws.{Hold, settled-accepted}
+use Rattle.buffers.specs.PositionLaws.{length-table, table-at, table-below, table-same, table-list, take-same}
+use Rattle.checks.specs.Checks.{Check, Outcome, accepted, atLeast}
+use Rattle.checks.specs.Laws.{Hold, settled-accepted, settled-behind, words-around}
 use Rattle.masking.specs.Sharing.{xorAll}
 use Rattle.masking.specs.Xor.{xorAll-lt}
-use Rattle.conversion.specs.Conversion.{convertBit, bitWords, bitShares, bitChecks, converted}
-use Rattle.conversion.specs.Laws.{convertBit-lt, convertBit-local, convertBit-sum}
-use Rattle.conversion.specs.Accepted.{SharedBit, first-lt, call-sharing}
+use Rattle.conversion.specs.Conversion.{convertBit, bitWords, bitShares, sharingChecks, bufferChecks, bitChecks, converted}
+use Rattle.conversion.specs.Laws.{bitWords-some, convertBit-lt, convertBit-local, convertBit-sum}
+use Rattle.conversion.specs.Accepted.{SharedBit, first-lt, shared-bit, call-sharing}
 use Rattle.conversion.specs.Secrecy.{Converts}
 
 pub length-bitShares : (n q : ℕ) (bits words : List ℕ) → length (bitShares n q bits words) ≡ n
@@ -45,31 +46,43 @@ module _ {n q : ℕ} {bits : List ℕ} (S : SharedBit n q bits) (words : List �
       ∙ ap (λ (l : List ℕ). reduce q (xorAll l)) (table-list n bits (S .count)) ∙ reduce-small q b
 
   -- words behind the first n(n − 1) do not matter
-  pub shares-words : bitShares n q bits (take (bitWords n) words) ≡ bitShares n q bits words
+  pub shares-words : (words′ : List ℕ) → take (bitWords n) words ≡ take (bitWords n) words′ → bitShares n q bits words ≡ bitShares n q bits words′
   unfolding bitShares
-  shares-words =
-      table-same n _ _ (convertBit-local q n (at bits) (at bits) (at (take (bitWords n) words)) (at words) (first-lt S) (first-lt S) (λ i l. refl) (λ j l. getD-take (bitWords n) words j 0 l))
+  shares-words words′ e =
+      table-same n _ _ (convertBit-local q n (at bits) (at bits) (at words) (at words′) (first-lt S) (first-lt S) (λ i l. refl) (take-same (bitWords n) words words′ e))
 
-module _ (n q : ℕ) (bits words out : List ℕ) (h : Hold (bitChecks n q bits words (length out))) where
-  -- a call that passes every check is accepted, and its shares stand in front
-  pub call-accepted : converted n q bits words out ≡ record { answer = accepted (bitWords n); buffers = overwrite out 0 (bitShares n q bits words) }
+module _ (n q : ℕ) (bits words : List ℕ) (start : ℕ) (out : List ℕ) where
+  -- the words that the call takes
+  abbrev taken : List ℕ
+  taken = take (bitWords n) (drop start words)
+
+  -- a call that passes every check
+  module _ (h : Hold (bitChecks n q bits words start (length out))) where
+    -- is accepted with the position after its last word, and its shares stand in front
+    pub call-accepted : converted n q bits words start out ≡ record { answer = accepted (start + bitWords n); buffers = overwrite out 0 (bitShares n q bits (drop start words)) }
+    unfolding converted
+    call-accepted = settled-accepted (start + bitWords n) (bitChecks n q bits words start (length out)) out (overwrite out 0 (bitShares n q bits (drop start words))) h
+
+    pub call-shares : take n (converted n q bits words start out .buffers) ≡ bitShares n q bits taken
+    call-shares =
+        ap (λ (o : Outcome ℕ (List ℕ)). take n (o .buffers)) call-accepted
+        ∙ take-front out (bitShares n q bits (drop start words)) n (length-bitShares n q bits (drop start words))
+        ∙ shares-words (call-sharing n q bits words start (length out) h) (drop start words) taken (sym (take-take (bitWords n) (bitWords n) (drop start words) (le-refl _)))
+
+    pub call-converts : Converts n q bits taken start (converted n q bits words start out)
+    call-converts =
+        record {
+          end = ap (λ (o : Outcome ℕ (List ℕ)). o .answer) call-accepted;
+          shares = call-shares;
+          residue = ap (λ (l : List ℕ). reduce q (total l)) call-shares ∙ shares-residue (call-sharing n q bits words start (length out) h) taken;
+        }
+
+  -- words before `start` and behind the last one do not matter, whether the call is accepted or refused
+  pub call-words : (words′ : List ℕ) → taken ≡ take (bitWords n) (drop start words′) → converted n q bits words start out ≡ converted n q bits words′ start out
   unfolding converted
-  call-accepted = settled-accepted (bitWords n) (bitChecks n q bits words (length out)) out (overwrite out 0 (bitShares n q bits words)) h
-
-  pub call-shares : take n (converted n q bits words out .buffers) ≡ bitShares n q bits words
-  call-shares =
-      ap (λ (o : Outcome ℕ (List ℕ)). take n (o .buffers)) call-accepted
-      ∙ take-front out (bitShares n q bits words) n (length-bitShares n q bits words)
-
-  pub call-share : (i : ℕ) → i < n → at (converted n q bits words out .buffers) i ≡ convertBit q n (at bits) (at words) i
-  call-share i l =
-      ap (λ (o : Outcome ℕ (List ℕ)). at (o .buffers) i) call-accepted
-      ∙ front-below out (bitShares n q bits words) i (omega (arith, length-bitShares n q bits words)) ∙ bitShares-at n q bits words i l
-
-  pub call-converts : Converts n q bits words out
-  call-converts =
-      record {
-        count = ap (λ (o : Outcome ℕ (List ℕ)). o .answer) call-accepted;
-        shares = call-shares;
-        residue = ap (λ (l : List ℕ). reduce q (total l)) call-shares ∙ shares-residue (call-sharing n q bits words (length out) h) words;
-      }
+  call-words words′ e =
+      settled-behind (start + bitWords n) (sharingChecks n q bits) (bufferChecks n q words start (length out)) (bufferChecks n q words′ start (length out)) out _ _ (λ h.
+      let S = shared-bit n q bits h in (
+        ap (λ (cs : List Check). cs ++ (atLeast 10 n (length out) ∷ [])) (words-around start (bitWords n) q (bitWords-some n (S .two)) words words′ e),
+        ap (overwrite out 0) (shares-words S (drop start words) (drop start words′) e),
+      ))

@@ -4,7 +4,7 @@ use mathlib.Core.Bool.{cond}
 use mathlib.Core.List.{List, [], _∷_, _++_}
 use Prim.Native.Nat.{ℕ, zero, suc, _+_, _-_, _*_}
 use lib.Dec.{ltb, eqb}
-use lib.ListN.{length}
+use lib.ListN.{length, drop}
 use Rattle.residue.specs.Residue.{add, sub, sum}
 use Rattle.buffers.specs.Overwrite.{overwrite}
 use Rattle.buffers.specs.Positions.{at, table, after}
@@ -86,11 +86,13 @@ abbrev pub sharingChecks : ℕ → ℕ → List ℕ → List Check
 sharingChecks n q bits = shareCount n ∷ modulusAtLeast 3 q ∷ exactly 4 n bits ∷ narrow 6 1 bits ∷ []
 
 -- and of the word list and the output: 8, 9, 10
-abbrev pub bufferChecks : ℕ → ℕ → List ℕ → ℕ → List Check
-bufferChecks n q words room = wordChecks (bitWords n) q words ++ (atLeast 10 n room ∷ [])
+abbrev pub bufferChecks : ℕ → ℕ → List ℕ → ℕ → ℕ → List Check
+bufferChecks n q words start room = wordChecks start (bitWords n) q words ++ (atLeast 10 n room ∷ [])
 
-abbrev pub bitChecks : ℕ → ℕ → List ℕ → List ℕ → ℕ → List Check
-bitChecks n q bits words room = sharingChecks n q bits ++ bufferChecks n q words room
+abbrev pub bitChecks : ℕ → ℕ → List ℕ → List ℕ → ℕ → ℕ → List Check
+bitChecks n q bits words start room = sharingChecks n q bits ++ bufferChecks n q words start room
 
-unfoldable pub converted : ℕ → ℕ → List ℕ → List ℕ → List ℕ → Outcome ℕ (List ℕ)
-converted n q bits words out = settled (verdict (bitChecks n q bits words (length out)) (bitWords n)) out (overwrite out 0 (bitShares n q bits words))
+-- The call takes the words from `start` on and answers the position after its last one (document 02, A.2).
+unfoldable pub converted : ℕ → ℕ → List ℕ → List ℕ → ℕ → List ℕ → Outcome ℕ (List ℕ)
+converted n q bits words start out =
+    settled (verdict (bitChecks n q bits words start (length out)) (start + bitWords n)) out (overwrite out 0 (bitShares n q bits (drop start words)))

@@ -1,6 +1,7 @@
 -- What crates above may use of the conversion: its shares are below q, they sum to the XOR of the bits, and which words it reads.
 use mathlib.Core.Path.{_≡_, refl, sym, ap, ap₂, _∙_, fun-ext}
 use Prim.Native.Nat.{ℕ, zero, suc, _+_, _-_, _*_, _/_, _≤_, _<_}
+use native.Mathlib.Nat.{mul-le-mul}
 use native.Mathlib.Decide.{decLt}
 use native.Mathlib.Omega.{arith}
 use borrow.Author.Tests.{lt-ltb, le-ltb}
@@ -25,6 +26,11 @@ pairs-twice (suc n) = go n ∙ ap (λ (m : ℕ). suc n * m) (omega arith)
     go : (n : ℕ) → pairs n + n + (pairs n + n) ≡ suc n * n
     go zero = refl
     go (suc n) = omega (arith, go n)
+
+pub bitWords-some : (n : ℕ) → 2 ≤ n → 0 < bitWords n
+bitWords-some n h =
+    let l : 1 ≤ n - 1 = omega arith in
+    omega (arith, mul-le-mul h l)
 
 pub pairs-half : (n : ℕ) → n * (n - 1) / 2 ≡ pairs n
 pairs-half n = omega (arith, pairs-twice n)

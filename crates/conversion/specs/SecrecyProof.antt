@@ -4,41 +4,53 @@ use mathlib.Core.List.{List}
 use Prim.Native.Nat.{ℕ, _+_, _≤_, _<_}
 use native.Mathlib.Omega.{arith}
 use lib.ListN.{length}
-use Rattle.buffers.specs.Positions.{at}
+use Rattle.buffers.specs.Positions.{at, Same}
 use Rattle.buffers.specs.PositionLaws.{after-zero}
 use Rattle.checks.specs.Laws.{Hold, accepted-holds}
-use Rattle.secrecy.specs.Secrecy.{Full}
-use Rattle.secrecy.specs.Laws.{weaken}
+use Rattle.secrecy.specs.Secrecy.{Full, inside, Indistinguishable, AgreeBut}
+use Rattle.secrecy.specs.Laws.{weaken, inside-taken, agree-front}
 use Rattle.secrecy.specs.Translation.{indistinguishable}
-use Rattle.conversion.specs.Conversion.{convertBit, bitWords, sharingChecks, bitChecks, converted}
-use Rattle.conversion.specs.Arrays.{full-drawn}
-use Rattle.conversion.specs.Accepted.{first-lt, shared-bit, call-holds}
-use Rattle.conversion.specs.Calls.{call-share, call-converts}
+use Rattle.conversion.specs.Conversion.{convertBit, bitWords, bitShares, sharingChecks, converted}
+use Rattle.conversion.specs.Arrays.{inside-drawn}
+use Rattle.conversion.specs.Accepted.{SharedBit, first-lt, shared-bit, call-holds}
+use Rattle.conversion.specs.Calls.{bitShares-at, call-converts}
 use Rattle.conversion.specs.Translation.{bitForm, convertBit-form, refreshWords, bit-equivariant}
-use Rattle.conversion.specs.Secrecy.{BitSecrecy}
+use Rattle.conversion.specs.Secrecy.{Converts, BitSecrecy}
 
-module _ (n q : ℕ) (bits : List ℕ) (h : Hold (sharingChecks n q bits)) (words : List ℕ) (f : Full q (bitWords n) words) (out : List ℕ) (r : n ≤ length out) where
-  full-holds : Hold (bitChecks n q bits words (length out))
-  full-holds = call-holds n q bits words (length out) h (full-drawn f) r
+-- ---- the shares
 
-  full-share : (i : ℕ) → i < n → at (converted n q bits words out .buffers) i ≡ bitForm q n 0 (at bits) (at words) i
-  full-share i l =
-      call-share n q bits words out full-holds i l ∙ ap (λ (w : ℕ → ℕ). convertBit q n (at bits) w i) (sym (after-zero (at words)))
-      ∙ convertBit-form q n 0 (at bits) (at words) (first-lt (shared-bit n q bits h)) i l
+shares-form : {n q : ℕ} {bits : List ℕ} → SharedBit n q bits → (words : List ℕ) → Same n (at (bitShares n q bits words)) (bitForm q n 0 (at bits) (at words))
+shares-form {n} {q} {bits} S words i l =
+    bitShares-at n q bits words i l ∙ ap (λ (w : ℕ → ℕ). convertBit q n (at bits) w i) (sym (after-zero (at words)))
+    ∙ convertBit-form q n 0 (at bits) (at words) (first-lt S) i l
+
+shares-secrecy : {n q : ℕ} {bits bits′ : List ℕ} → SharedBit n q bits → SharedBit n q bits′ → (ℓ : ℕ) → ℓ < n
+    → Indistinguishable (Full q (bitWords n)) (λ words words′. AgreeBut ℓ n (bitShares n q bits words) (bitShares n q bits′ words′))
+shares-secrecy {n} {q} {bits} {bits′} S S′ ℓ l =
+    let pos : 0 < q = omega (arith, S .modulus) in
+    let fits : 0 + bitWords n ≤ bitWords n = omega arith in
+    weaken (λ v w f g same i m d. shares-form S v i m ∙ same i (m, d) ∙ sym (shares-form S′ w i m))
+    (indistinguishable (refreshWords q pos n ℓ 0 (bitWords n) l fits) pos (bitForm q n 0 (at bits)) (bitForm q n 0 (at bits′))
+    (bit-equivariant q pos n ℓ 0 (bitWords n) l fits (at bits))
+    (bit-equivariant q pos n ℓ 0 (bitWords n) l fits (at bits′)))
+
+-- ---- the whole calls
+
+-- a call on a full list between others
+module _ (n q : ℕ) (bits : List ℕ) (h : Hold (sharingChecks n q bits)) (words : List ℕ) (f : Full q (bitWords n) words) (before behind out : List ℕ) (r : n ≤ length out) where
+  inside-converts : Converts n q bits words (length before) (converted n q bits (inside before words behind) (length before) out)
+  inside-converts =
+      rw (inside-taken f before behind) at (call-converts n q bits (inside before words behind) (length before) out
+      (call-holds n q bits (inside before words behind) (length before) (length out) h (inside-drawn f before behind) r))
 
 pub bit-secrecy : (n q : ℕ) → BitSecrecy n q
 unfolding BitSecrecy
 bit-secrecy n q ℓ l bits bits′ a a′ =
     let h = accepted-holds tt tt (sharingChecks n q bits) a in
     let h′ = accepted-holds tt tt (sharingChecks n q bits′) a′ in
-    let pos : 0 < q = omega (arith, shared-bit n q bits h .modulus) in
-    let fits : 0 + bitWords n ≤ bitWords n = omega arith in
     weaken
-    (λ v w f g same out out′ r r′. record {
-      one = call-converts n q bits v out (full-holds n q bits h v f out r);
-      other = call-converts n q bits′ w out′ (full-holds n q bits′ h′ w g out′ r′);
-      agree = λ i m d. full-share n q bits h v f out r i m ∙ same i (m, d) ∙ sym (full-share n q bits′ h′ w g out′ r′ i m);
-    })
-    (indistinguishable (refreshWords q pos n ℓ 0 (bitWords n) l fits) pos (bitForm q n 0 (at bits)) (bitForm q n 0 (at bits′))
-    (bit-equivariant q pos n ℓ 0 (bitWords n) l fits (at bits))
-    (bit-equivariant q pos n ℓ 0 (bitWords n) l fits (at bits′)))
+    (λ v w f g same before behind out out′ r r′.
+    let one = inside-converts n q bits h v f before behind out r in
+    let other = inside-converts n q bits′ h′ w g before behind out′ r′ in
+    record { one = one; other = other; agree = agree-front ℓ n _ _ (one .shares) (other .shares) same })
+    (shares-secrecy (shared-bit n q bits h) (shared-bit n q bits′ h′) ℓ l)

@@ -66,21 +66,44 @@ fn one_share(bit: Word) -> [Word; 8]
     one
 }
 
-// Steps 1 and 2: the list for the first j shares of bit t, with the first j(j - 1)/2 words.
-// `&words[..]`: the words' address and length are then copied one by one, as they were stored, which is faster than both at once.
-fn convert(shares: &[u16; 8], t: usize, j: usize, q: Word, words: &[Word]) -> [Word; 8]
-    requires { ⌜ (1 ≤ j) × (j ≤ 8) × (t < 16) × Modulus q × Drawn q 0 (pairs j) (now words) ⌝ }
-    ensures { λ r. ⌜ Holds j (convert q j (bitsAt (at (now (shares .entry))) t) (at (now (words .entry)))) r ⌝ }
-{
-    if j == 1 {
-        return one_share(bit(shares[0], t));
-    }
-    let k = j - 1;
-    let a = convert(shares, t, k, q, &words[..]);
-    xor_share(a, k, bit(shares[k], t), q, words, k * (k - 1) / 2)
+// A list that steps 1 and 2 made, and the position after their last word.
+pub struct Converted {
+    pub list: [Word; 8],
+    pub next: usize,
 }
 
-// Step 3: every pair of the n shares takes a word from `start` on. The shares come to stand at `to` in `out` and behind.
+// Steps 1 and 2: the list for the first j shares of bit t, with the j(j - 1)/2 words at `start`.
+// `&words[..]`: the words' address and length are then copied one by one, as they were stored, which is faster than both at once.
+fn convert(
+    shares: &[u16; 8],
+    t: usize,
+    j: usize,
+    q: Word,
+    words: &[Word],
+    start: usize,
+) -> Converted
+    requires { ⌜ (1 ≤ j) × (j ≤ 8) × (t < 16) × Modulus q × Drawn q start (pairs j) (now words) ⌝ }
+    ensures { λ r. ⌜ Holds j (convert q j (bitsAt (at (now (shares .entry))) t) (after start (at (now (words .entry))))) (r .list) × (r .next ≡ start + pairs j) ⌝ }
+{
+    if j == 1 {
+        let list = one_share(bit(shares[0], t));
+        return Converted {
+            list: list,
+            next: start,
+        };
+    }
+    let k = j - 1;
+    let first = convert(shares, t, k, q, &words[..], start);
+    let a = first.list;
+    let list = xor_share(a, k, bit(shares[k], t), q, words, first.next);
+    Converted {
+        list: list,
+        next: first.next + k,
+    }
+}
+
+// Step 3: every pair of the n shares takes a word from `start` on. The shares come to stand at `to` in `out` and behind. Answers the position
+// after the last word.
 fn refresh(
     shares: [Word; 8],
     n: usize,
@@ -89,9 +112,9 @@ fn refresh(
     start: usize,
     out: &mut [Word],
     to: usize,
-)
+) -> usize
     requires { ⌜ (n ≤ 8) × Modulus q × (length shares ≡ 8) × Below q n (at shares) × Drawn q start (pairs n) (now words) × (to + n ≤ length (now out)) ⌝ }
-    ensures { λ _. ⌜ now (out .exit) ≡ overwrite (now (out .entry)) to (table n (refresh q n (after start (at (now (words .entry)))) (at shares))) ⌝ }
+    ensures { λ r. ⌜ (now (out .exit) ≡ overwrite (now (out .entry)) to (table n (refresh q n (after start (at (now (words .entry)))) (at shares)))) × (r ≡ start + pairs n) ⌝ }
 {
     let modulus = residue::widen(q);
     let mut a = shares;
@@ -106,9 +129,11 @@ fn refresh(
         }
         out[to + i] = residue::narrow(own, q);
     }
+    p
 }
 
-// The n shares of bit t, by steps 1, 2 and 3 with the n(n - 1) words at `start`. They come to stand at `to` in `out` and behind.
+// The n shares of bit t, by steps 1, 2 and 3 with the n(n - 1) words at `start`. They come to stand at `to` in `out` and behind. Answers the
+// position after the last word.
 pub fn convert_at(
     shares: &[u16; 8],
     t: usize,
@@ -118,16 +143,17 @@ pub fn convert_at(
     start: usize,
     out: &mut [Word],
     to: usize,
-)
+) -> usize
     requires { ⌜ (2 ≤ n) × (n ≤ 8) × (t < 16) × Modulus q × Drawn q start (bitWords n) (now words) × (to + n ≤ length (now out)) ⌝ }
-    ensures { λ _. ⌜ now (out .exit) ≡ overwrite (now (out .entry)) to (table n (convertBit q n (bitsAt (at (now (shares .entry))) t) (after start (at (now (words .entry)))))) ⌝ }
+    ensures { λ r. ⌜ (now (out .exit) ≡ overwrite (now (out .entry)) to (table n (convertBit q n (bitsAt (at (now (shares .entry))) t) (after start (at (now (words .entry))))))) × (r ≡ start + bitWords n) ⌝ }
 {
-    let a = convert(shares, t, n, q, &words[start..]);
-    refresh(a, n, q, words, start + n * (n - 1) / 2, out, to);
+    let first = convert(shares, t, n, q, &words[..], start);
+    let a = first.list;
+    refresh(a, n, q, words, first.next, out, to)
 }
 
-fn check_bit(n: usize, q: Word, bits: &[u16], words: &[Word], room: usize) -> Checked
-    ensures { λ r. ⌜ checkedReading r ≡ checked (bitChecks n q (now (bits .entry)) (now (words .entry)) room) ⌝ }
+fn check_bit(n: usize, q: Word, bits: &[u16], words: &[Word], start: usize, room: usize) -> Checked
+    ensures { λ r. ⌜ checkedReading r ≡ checked (bitChecks n q (now (bits .entry)) (now (words .entry)) start room) ⌝ }
 {
     if !checks::within(2, 8, n) {
         return checks::refuse(checks::SHARE_COUNT, 0);
@@ -141,7 +167,7 @@ fn check_bit(n: usize, q: Word, bits: &[u16], words: &[Word], room: usize) -> Ch
     if let Found::At(i) = checks::first_wide(bits, 1) {
         return checks::refuse(checks::X_WIDTH, i);
     }
-    if let Checked::Failed(r) = checks::check_words(words, 1, (n * (n - 1)) as u32, q) {
+    if let Checked::Failed(r) = checks::check_words(words, start, 1, (n * (n - 1)) as u32, q) {
         return Checked::Failed(r);
     }
     if room < n {
@@ -150,18 +176,24 @@ fn check_bit(n: usize, q: Word, bits: &[u16], words: &[Word], room: usize) -> Ch
     Checked::Passed
 }
 
-// Converts one shared bit to n shares modulo q and answers n(n - 1), the number of words it takes from the front of the list.
-// Output positions past n keep their content.
-// Refuses 1, 3 (q below 3), 4, 6 with the share's position, 8, 9 with the word's position, 10.
-pub fn convert_bit(n: usize, q: Word, bits: &[u16], words: &[Word], out: &mut [Word]) -> Answer
-    ensures { λ r. ⌜ outcome r (now (out .exit)) ≡ converted n q (now (bits .entry)) (now (words .entry)) (now (out .entry)) ⌝ }
+// Converts one shared bit to n shares modulo q, with the n(n - 1) words at `start`, and answers the position after the last of them. The words
+// around them are neither read nor judged. Output positions past n keep their content.
+// Refuses 1, 3 (q below 3), 4, 6 with the share's position, 8 (fewer than start + n(n - 1) words), 9 with the word's position, 10.
+pub fn convert_bit(
+    n: usize,
+    q: Word,
+    bits: &[u16],
+    words: &[Word],
+    start: usize,
+    out: &mut [Word],
+) -> Answer
+    ensures { λ r. ⌜ outcome r (now (out .exit)) ≡ converted n q (now (bits .entry)) (now (words .entry)) start (now (out .entry)) ⌝ }
     ensures secrecy { λ _. ⌜ BitSecrecy n q ⌝ }
 {
-    if let Checked::Failed(r) = check_bit(n, q, bits, words, out.len()) {
+    if let Checked::Failed(r) = check_bit(n, q, bits, words, start, out.len()) {
         return Answer::Refused(r);
     }
     let mut array = [0u16; 8];
     buffers::copy_eight(&mut array, bits);
-    convert_at(&array, 0, n, q, words, 0, out, 0);
-    Answer::Done(n * (n - 1))
+    Answer::Done(convert_at(&array, 0, n, q, words, start, out, 0))
 }

@@ -152,7 +152,7 @@ fn check_open_residue(n: usize, q: Word, shares: &[Word]) -> Checked
     if shares.len() != n {
         return checks::refuse(checks::ARITHMETIC_COUNT, 0);
     }
-    if let Found::At(i) = checks::first_not_below(shares, 1, n, q) {
+    if let Found::At(i) = checks::first_not_below(shares, 0, 1, n, q) {
         return checks::refuse(checks::ARITHMETIC_RANGE, i);
     }
     Checked::Passed

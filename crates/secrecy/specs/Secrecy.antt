@@ -1,6 +1,6 @@
 -- What it means that outputs tell nothing of a secret (document 01: 'The rule about n − 1 shares').
 use mathlib.Core.Path.{_≡_}
-use mathlib.Core.List.{List}
+use mathlib.Core.List.{List, _++_}
 use mathlib.Core.Logic.{_≢_}
 use Prim.Native.Nat.{ℕ, _<_}
 use lib.ListN.{length}
@@ -11,6 +11,10 @@ use Rattle.buffers.specs.Positions.{at}
 pub record Full (q W : ℕ) (ws : List ℕ) : Type 0 where
   pub count : length ws ≡ W
   pub below : EachBelow q ws
+
+-- The words of a call that starts behind `before`: a list of its own stands between others.
+abbrev pub inside : List ℕ → List ℕ → List ℕ → List ℕ
+inside before ws behind = before ++ (ws ++ behind)
 
 -- A one-to-one map of the full lists (or whatever else P tells) onto themselves: the image of a full list is full, different ones have
 -- different images, and every full list is the image of one.

@@ -18,10 +18,10 @@ past5 : (c : tie.Else2) → Past (checks (c .before .before .before .before)) 2
 past5 c = past4 (c .before) ∙ pass tt _ _ (eq-eqb _ _ (c .if2 .left))
 
 past6 : (c : tie.After-enum-told) → Past (checks (c .before .before .before .before .before .before .before)) 3
-past6 c = past5 (c .before .before .before) ∙ pass-none tt _ _ _ _ (search-none (c .before .before .first-wide .ensures) (c .enum-told .given .1))
+past6 c = past5 (c .before .before .before) ∙ pass-none tt _ _ _ _ _ (search-none (c .before .before .first-wide .ensures) (c .enum-told .given .1))
 
 past7 : (c : tie.After-enum-told2) → Past (checks (c .before .before .before .before .before .before .before .before .before .before)) 4
-past7 c = past6 (c .before .before .before) ∙ pass-none tt _ _ _ _ (search-none (c .before .before .first-wide2 .ensures) (c .enum-told2 .given .1))
+past7 c = past6 (c .before .before .before) ∙ pass-none tt _ _ _ _ _ (search-none (c .before .before .first-wide2 .ensures) (c .enum-told2 .given .1))
 
 refuse-requires : tie.Need-refuse-requires
 refuse-requires c κs = search needs
@@ -45,7 +45,7 @@ refuse-requires-3 : tie.Need-refuse-requires-3
 refuse-requires-3 c κs = search needs
 
 returns-3 : tie.Need-returns-3
-returns-3 c = c .refuse3 .ensures ∙ sym (past5 (c .before .before .before .before .before) ∙ fail-some tt _ _ _ _ _ (search-some (c .before .before .before .before .first-wide .ensures) (c .before .before .i .given .1)))
+returns-3 c = c .refuse3 .ensures ∙ sym (past5 (c .before .before .before .before .before) ∙ fail-some tt _ _ _ _ _ _ (search-some (c .before .before .before .before .first-wide .ensures) (c .before .before .i .given .1)))
 
 enum-told : tie.Need-enum-told
 enum-told c = search needs
@@ -60,7 +60,7 @@ refuse-requires-4 : tie.Need-refuse-requires-4
 refuse-requires-4 c κs = search needs
 
 returns-4 : tie.Need-returns-4
-returns-4 c = c .refuse4 .ensures ∙ sym (past6 (c .before .before .before .before .before) ∙ fail-some tt _ _ _ _ _ (search-some (c .before .before .before .before .first-wide2 .ensures) (c .before .before .i2 .given .1)))
+returns-4 c = c .refuse4 .ensures ∙ sym (past6 (c .before .before .before .before .before) ∙ fail-some tt _ _ _ _ _ _ (search-some (c .before .before .before .before .first-wide2 .ensures) (c .before .before .i2 .given .1)))
 
 enum-told-2 : tie.Need-enum-told-2
 enum-told-2 c = search needs

@@ -1,9 +1,9 @@
 -- The search passed the bits below b and, in bit b, the words below i.
 use mathlib.Core.Path.{_≡_, refl, sym, ap, _∙_}
 use Prim.Native.Nat.{_+_, _*_, _-_, _≤_, _<_}
-use native.Mathlib.Nat.{zero-mul}
+use native.Mathlib.Nat.{zero-mul, add-zero, add-assoc}
 use native.Mathlib.Omega.{arith}
-use lib.ListN.{length, take}
+use lib.ListN.{length, take, drop}
 use borrow.Author.Needs.{needs}
 use Rattle.checks.specs.Answers.{foundReading}
 use Rattle.checks.specs.Laws.{Searched, search-begins}
@@ -13,29 +13,29 @@ use Rattle.checks.proofs.first_not_below.Statement.{statement}
 use Rattle.checks.proofs.first_not_below.Tie as tie
 
 abbrev Inv-loop : tie.InvT-loop
-Inv-loop words bits per q found₀ at₀ b i₀ found at i = (i ≤ per) × (found ≡ Nothing) × (at ≡ b * per + i) × Searched q (take (bits * per) words) at
+Inv-loop words start bits per q found₀ at₀ b i₀ found at i = (i ≤ per) × (found ≡ Nothing) × (at ≡ start + (b * per + i)) × Searched q start (take (bits * per) (drop start words)) (b * per + i) at
 
 abbrev μ-loop : tie.MeasureT-loop
-μ-loop words bits per q found₀ at₀ b i₀ found at i = per - i
+μ-loop words start bits per q found₀ at₀ b i₀ found at i = per - i
 
 abbrev Inv-bits : tie.InvT-bits
-Inv-bits words bits per q found₀ at₀ b₀ found at b = (b ≤ bits) × (found ≡ Nothing) × (at ≡ b * per) × Searched q (take (bits * per) words) at
+Inv-bits words start bits per q found₀ at₀ b₀ found at b = (b ≤ bits) × (found ≡ Nothing) × (at ≡ start + b * per) × Searched q start (take (bits * per) (drop start words)) (b * per) at
 
 abbrev μ-bits : tie.MeasureT-bits
-μ-bits words bits per q found₀ at₀ b₀ found at b = bits - b
+μ-bits words start bits per q found₀ at₀ b₀ found at b = bits - b
 
 -- word i of bit b lies in the list
 in-list : (c : tie.In-loop Inv-loop μ-loop Inv-bits μ-bits) → c .before .loop .at < length (c .before .before .before .before .args .words .now)
 in-list c =
     let s = c .before .before .before .before in
-    inside (s .args .q) (s .args .bits) (s .args .per) (s .args .words .now) (s .pre) (c .before .before .before .bits .b) (c .before .loop .i) (c .before .loop .at)
+    inside (s .args .q) (s .args .start) (s .args .bits) (s .args .per) (s .args .words .now) (s .pre) (c .before .before .before .bits .b) (c .before .loop .i) (c .before .loop .at)
     (c .before .before .bits-test .taken) (c .loop-test .taken) (c .before .loop .inv .2)
 
 bits-holds : tie.Need-bits-holds Inv-loop μ-loop Inv-bits μ-bits
-bits-holds c = (omega arith, refl, sym (zero-mul (c .args .per)), search-begins _ _)
+bits-holds c = (omega arith, refl, omega (arith, zero-mul (c .args .per)), rw (zero-mul (c .args .per)) (search-begins _ _ _))
 
 loop-holds : tie.Need-loop-holds Inv-loop μ-loop Inv-bits μ-bits
-loop-holds c = (omega arith, c .before .bits .inv .1, omega (arith, c .before .bits .inv .2), c .before .bits .inv .3)
+loop-holds c = (omega arith, c .before .bits .inv .1, omega (arith, c .before .bits .inv .2), rw (add-zero (c .before .bits .b * c .before .before .args .per)) (c .before .bits .inv .3))
 
 mul-if1 : tie.Need-mul-if1 Inv-loop μ-loop Inv-bits μ-bits
 mul-if1 c = omega (arith, in-list c)
@@ -59,8 +59,8 @@ loop-again c =
       omega arith,
       l .inv .1,
       omega (arith, l .inv .2),
-      passes (s .args .q) (s .args .bits) (s .args .per) (s .args .words .now) (s .pre) (c .before .before .before .before .before .bits .b) (l .i) (l .at)
-          (c .before .before .before .before .bits-test .taken) (c .before .before .loop-test .taken) (l .inv .2) (c .if1 .left) (l .inv .3),
+      rw (← add-assoc) (passes (s .args .q) (s .args .start) (s .args .bits) (s .args .per) (s .args .words .now) (s .pre) (c .before .before .before .before .before .bits .b) (l .i) (l .at)
+          (c .before .before .before .before .bits-test .taken) (c .before .before .loop-test .taken) (l .inv .2) (c .if1 .left) (l .inv .3)),
     )
 
 add-b : tie.Need-add-b Inv-loop μ-loop Inv-bits μ-bits
@@ -72,11 +72,12 @@ bits-less c = search needs
 bits-again : tie.Need-bits-again Inv-loop μ-loop Inv-bits μ-bits
 bits-again c =
     let s = c .before .before .before .before in
-    let l = c .before .loop in (
+    let l = c .before .loop in
+    let e = row-ends (s .args .q) (s .args .start) (s .args .bits) (s .args .per) (s .args .words .now) (s .pre) (c .before .before .before .bits .b) (l .i) (l .inv .0) (c .loop-test .left) in (
       omega arith,
       l .inv .1,
-      row-ends (s .args .q) (s .args .bits) (s .args .per) (s .args .words .now) (s .pre) (c .before .before .before .bits .b) (l .i) (l .at) (l .inv .0) (c .loop-test .left) (l .inv .2),
-      l .inv .3,
+      omega (arith, e, l .inv .2),
+      rw e at (l .inv .3),
     )
 
 returns : tie.Need-returns Inv-loop μ-loop Inv-bits μ-bits
@@ -84,13 +85,13 @@ returns c =
     let s = c .before .before in
     let l = c .before .bits in
     ap foundReading (l .inv .1)
-    ∙ sym (ends (s .args .q) (s .args .bits) (s .args .per) (s .args .words .now) (s .pre) (l .b) (l .at) (l .inv .0) (c .bits-test .left) (l .inv .2) (l .inv .3))
+    ∙ sym (ends (s .args .q) (s .args .start) (s .args .bits) (s .args .per) (s .args .words .now) (s .pre) (l .b) (l .at) (l .inv .0) (c .bits-test .left) (l .inv .3))
 
 returns-2 : tie.Need-returns-2 Inv-loop μ-loop Inv-bits μ-bits
 returns-2 c =
     let s = c .before .before .before .before .before .before in
     let l = c .before .before .before .loop in
-    sym (finds (s .args .q) (s .args .bits) (s .args .per) (s .args .words .now) (s .pre) (c .before .before .before .before .before .bits .b) (l .i) (l .at)
+    sym (finds (s .args .q) (s .args .start) (s .args .bits) (s .args .per) (s .args .words .now) (s .pre) (c .before .before .before .before .before .bits .b) (l .i) (l .at)
     (c .before .before .before .before .bits-test .taken) (c .before .before .loop-test .taken) (l .inv .2) (c .if1 .taken) (l .inv .3))
 
 pub first-not-below-spec : {M : Type 1} → statement M

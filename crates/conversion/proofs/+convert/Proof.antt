@@ -1,14 +1,14 @@
 -- The measure is the number of shares. One share is its own list; each further one is added to the list of those before it.
-use mathlib.Core.Path.{_≡_, ap}
+use mathlib.Core.Path.{_≡_, sym, ap, _∙_}
 use native.Mathlib.Omega.{arith}
 use Rattle.buffers.specs.Positions.{at, after}
+use Rattle.buffers.specs.PositionLaws.{after-after}
 use Rattle.checks.specs.Width.{bit-lt}
 use Rattle.conversion.specs.Conversion.{pairs}
-use Rattle.conversion.specs.Laws.{pairs-half}
 use Rattle.conversion.specs.Arrays.{drawn-part}
-use Rattle.conversion.proofs.Steps.{products, pairs-step, one-list, holds-below, share-added}
+use Rattle.conversion.proofs.Steps.{pairs-one, pairs-step, one-list, holds-below, share-added}
 use borrow.Author.Needs.{needs}
-use Prim.Native.Nat.{ℕ, _-_, _*_, _/_, _<_}
+use Prim.Native.Nat.{ℕ, _-_, _<_}
 use borrow.Fn.Kinds.{In}
 use borrow.Fn.PlainCycle.{Measures, is, falls, and}
 use Rattle.conversion.proofs.convert.Reads as convert
@@ -75,7 +75,10 @@ convert-returns : (t : ℕ) → convert-lts.Need-returns (
   xor-share-reads.Asked,
   xor-share-reads.Learnt,
 ) (convert-at t) convert.Post
-convert-returns t c = one-list _ _ _ _ _ _ (c .before .before .before .if1 .taken) (c .before .bit .ensures) (c .one-share .ensures)
+convert-returns t c =
+    let s = c .before .before .before .before .before .args in
+    let e : pairs (s .j) ≡ 0 = rw (c .before .before .before .if1 .taken) pairs-one in
+    (one-list _ _ _ _ _ _ (c .before .before .before .if1 .taken) (c .before .bit .ensures) (c .one-share .ensures), omega arith)
 
 convert-sub-k : (t : ℕ) → convert-lts.Need-sub-k (
   bit-reads.Asked,
@@ -140,32 +143,6 @@ convert-bit-requires-2 : (t : ℕ) → convert-lts.Need-bit-requires-2 (
 ) (convert-at t) convert.Post
 convert-bit-requires-2 t c κs = search needs
 
-convert-sub-xor-share : (t : ℕ) → convert-lts.Need-sub-xor-share (
-  bit-reads.Asked,
-  bit-reads.Learnt,
-  one-share-reads.Asked,
-  one-share-reads.Learnt,
-  convert-below t,
-  convert.Post,
-  xor-share-reads.Asked,
-  xor-share-reads.Learnt,
-) (convert-at t) convert.Post
-convert-sub-xor-share t c = search needs
-
-convert-mul-xor-share : (t : ℕ) → convert-lts.Need-mul-xor-share (
-  bit-reads.Asked,
-  bit-reads.Learnt,
-  one-share-reads.Asked,
-  one-share-reads.Learnt,
-  convert-below t,
-  convert.Post,
-  xor-share-reads.Asked,
-  xor-share-reads.Learnt,
-) (convert-at t) convert.Post
-convert-mul-xor-share t c =
-    let j = c .before .before .before .before .before .args .j in
-    omega (arith, products (j - 1) (j - 1 - 1) (omega arith) (omega arith))
-
 convert-xor-share-requires : (t : ℕ) → convert-lts.Need-xor-share-requires (
   bit-reads.Asked,
   bit-reads.Learnt,
@@ -177,17 +154,33 @@ convert-xor-share-requires : (t : ℕ) → convert-lts.Need-xor-share-requires (
   xor-share-reads.Learnt,
 ) (convert-at t) convert.Post
 convert-xor-share-requires t c κs =
-    let s = c .before .before .before .before .before in
-    let e = pairs-half (s .args .j - 1) in
+    let s = c .before .before .before .before .before .before in
+    let l = c .before .before .before .convert .ensures in
     let f = pairs-step (s .args .j) (s .args .j - 1) (omega arith) in
     let h = s .pre .1 .3 .large in
     let b = bit-lt (at (s .args .shares .now) 0) (s .args .t) in (
       omega arith,
       rw (c .bit2 .ensures) (bit-lt _ _),
       s .pre .1 .3,
-      holds-below _ _ _ _ _ (omega arith) (omega arith) (c .before .before .convert .ensures),
-      drawn-part _ (pairs (s .args .j - 1)) _ (omega arith) (omega arith) (s .pre .1 .4),
+      holds-below _ _ _ _ _ (omega arith) (omega arith) (l .0),
+      drawn-part _ (pairs (s .args .j - 1)) _ (l .1) (omega arith) (s .pre .1 .4),
     )
+
+convert-add-t20 : (t : ℕ) → convert-lts.Need-add-t20 (
+  bit-reads.Asked,
+  bit-reads.Learnt,
+  one-share-reads.Asked,
+  one-share-reads.Learnt,
+  convert-below t,
+  convert.Post,
+  xor-share-reads.Asked,
+  xor-share-reads.Learnt,
+) (convert-at t) convert.Post
+convert-add-t20 t c =
+    let d = c .before .before .before .before .before in
+    let s = d .before .before .before in
+    let f = pairs-step (s .args .j) (s .args .j - 1) (omega arith) in
+    omega (arith, d .convert .ensures .1, s .pre .1 .4 .room)
 
 convert-returns-2 : (t : ℕ) → convert-lts.Need-returns-2 (
   bit-reads.Asked,
@@ -200,11 +193,15 @@ convert-returns-2 : (t : ℕ) → convert-lts.Need-returns-2 (
   xor-share-reads.Learnt,
 ) (convert-at t) convert.Post
 convert-returns-2 t c =
-    let s = c .before .before .before .before .before .before .args in
+    let d = c .before .before .before .before .before in
+    let s = d .before .before .before .args in
     let k = s .j - 1 in
-    let e : k * (k - 1) / 2 ≡ pairs k = omega (arith, pairs-half k) in
-    share-added _ _ _ _ _ _ _ _ _ (omega arith) (omega arith) (ap (λ (p : ℕ). after p (at (s .words .now))) e) (c .before .bit2 .ensures)
-    (c .before .before .before .convert .ensures) (c .xor-share .ensures)
+    let l = d .convert .ensures in
+    let f = pairs-step (s .j) k (omega arith) in (
+      share-added _ _ _ _ _ _ _ _ _ (omega arith) (omega arith)
+          (ap (λ (p : ℕ). after p (at (s .words .now))) (l .1) ∙ sym (after-after (s .start) (pairs k) (at (s .words .now)))) (c .before .before .bit2 .ensures) (l .0) (c .before .xor-share .ensures),
+      omega arith,
+    )
 
 pub +convert-spec : {M : Type 1} → statement M
 +convert-spec = close μ-convert λ t. convert-lts.spec (
@@ -228,7 +225,6 @@ pub +convert-spec : {M : Type 1} → statement M
     (convert-mul-bit t)
     (convert-element-copy-out-bit-2 t)
     (convert-bit-requires-2 t)
-    (convert-sub-xor-share t)
-    (convert-mul-xor-share t)
     (convert-xor-share-requires t)
+    (convert-add-t20 t)
     (convert-returns-2 t)

@@ -14,7 +14,7 @@ use Rattle.conversion.proofs.check_bit.Statement.{statement}
 use Rattle.conversion.proofs.check_bit.Tie as tie
 
 abbrev checks : tie.Start → List Check
-checks s = bitChecks (s .args .n) (s .args .q) (s .args .bits .now) (s .args .words .now) (s .args .room)
+checks s = let a = s .args in bitChecks (a .n) (a .q) (a .bits .now) (a .words .now) (a .start) (a .room)
 
 past1 : (c : tie.Else1) → Past (checks (c .before .before .before .before)) 1
 past1 c = pass tt _ _ (test-holds (c .before .within .ensures) (c .if1 .left))
@@ -26,11 +26,11 @@ past3 : (c : tie.Else3) → Past (checks (c .before .before .before .before .bef
 past3 c = past2 (c .before) ∙ pass tt _ _ (eq-eqb _ _ (c .if3 .left))
 
 past4 : (c : tie.After-enum-told) → Past (checks (c .before .before .before .before .before .before .before .before .before)) 4
-past4 c = past3 (c .before .before .before) ∙ pass-none tt _ _ _ _ (search-none (c .before .before .first-wide .ensures) (c .enum-told .given .1))
+past4 c = past3 (c .before .before .before) ∙ pass-none tt _ _ _ _ _ (search-none (c .before .before .first-wide .ensures) (c .enum-told .given .1))
 
 -- one bit of n (n − 1) words
-one : (s : tie.Start) → checked (wordChecks (1 * bitWords (s .args .n)) (s .args .q) (s .args .words .now)) ≡ checked (wordChecks (bitWords (s .args .n)) (s .args .q) (s .args .words .now))
-one s = ap (λ m. checked (wordChecks m (s .args .q) (s .args .words .now))) (one-mul (bitWords (s .args .n)))
+one : (s : tie.Start) → let a = s .args in checked (wordChecks (a .start) (1 * bitWords (a .n)) (a .q) (a .words .now)) ≡ checked (wordChecks (a .start) (bitWords (a .n)) (a .q) (a .words .now))
+one s = let a = s .args in ap (λ m. checked (wordChecks (a .start) m (a .q) (a .words .now))) (one-mul (bitWords (a .n)))
 
 past6 : (c : tie.After-enum-told2) → Past (checks (c .before .before .before .before .before .before .before .before .before .before .before .before)) 6
 past6 c =
@@ -78,7 +78,7 @@ refuse-requires-4 : tie.Need-refuse-requires-4
 refuse-requires-4 c κs = search needs
 
 returns-4 : tie.Need-returns-4
-returns-4 c = c .refuse4 .ensures ∙ sym (past3 (c .before .before .before .before .before) ∙ fail-some tt _ _ _ _ _ (search-some (c .before .before .before .before .first-wide .ensures) (c .before .before .i .given .1)))
+returns-4 c = c .refuse4 .ensures ∙ sym (past3 (c .before .before .before .before .before) ∙ fail-some tt _ _ _ _ _ _ (search-some (c .before .before .before .before .first-wide .ensures) (c .before .before .i .given .1)))
 
 enum-told : tie.Need-enum-told
 enum-told c = search needs

@@ -1,6 +1,7 @@
 -- The checks' verdict; a refusal comes before anything is written, and behind the checks the bit is converted.
-use mathlib.Core.Path.{_∙_, ap}
-use Prim.Native.Nat.{_-_}
+use mathlib.Core.Path.{_∙_, ap, ap₂}
+use mathlib.Core.List.{List}
+use Prim.Native.Nat.{ℕ}
 use native.Mathlib.Omega.{arith}
 use lib.ListN.{length}
 use Rattle.checks.specs.declared.Answer.the-variants.{Done}
@@ -12,16 +13,16 @@ use Rattle.buffers.specs.PositionLaws.{front-same}
 use Rattle.conversion.specs.Conversion.{bitChecks, converted}
 use Rattle.conversion.specs.Accepted.{SharedBit, call-sharing, call-room, call-drawn}
 use Rattle.conversion.specs.SecrecyProof.{bit-secrecy}
-use Rattle.conversion.proofs.Steps.{products, bit-alone}
+use Rattle.conversion.proofs.Steps.{bit-alone}
 use borrow.Author.Needs.{needs}
 use Rattle.conversion.proofs.convert_bit.Statement.{statement}
 use Rattle.conversion.proofs.convert_bit.Tie as tie
 
-holds : (c : tie.After-enum-told) → let a = c .before .before .before .before .before .before .args in Hold (bitChecks (a .n) (a .q) (a .bits .now) (a .words .now) (length (a .out .now)))
+holds : (c : tie.After-enum-told) → let a = c .before .before .before .before .before .before .args in Hold (bitChecks (a .n) (a .q) (a .bits .now) (a .words .now) (a .start) (length (a .out .now)))
 holds c = checks-hold _ _ (c .before .before .check-bit .ensures) (c .enum-told .given .1)
 
 shared : (c : tie.After-enum-told) → let a = c .before .before .before .before .before .before .args in SharedBit (a .n) (a .q) (a .bits .now)
-shared c = call-sharing _ _ _ _ _ (holds c)
+shared c = call-sharing _ _ _ _ _ _ (holds c)
 
 -- the shares stand in front of the array
 gathered : (c : tie.After-copy-eight) → let a = c .before .before .before .before .before .before .before .before .args in Same (a .n) (at (c .copy-eight .last .0)) (at (a .bits .now))
@@ -54,16 +55,7 @@ convert-at-requires c κs =
     let t = c .before .before .before .before .before in
     let h = holds t in
     let s = shared t in
-    (s .two, s .eight, omega arith, record { large = s .modulus; small = omega arith }, call-drawn _ _ _ _ _ h, omega (arith, call-room _ _ _ _ _ h))
-
-sub-t9 : tie.Need-sub-t9
-sub-t9 c = omega (arith, shared (c .before .before .before .before .before .before .before .before) .two)
-
-mul-t16 : tie.Need-mul-t16
-mul-t16 c =
-    let s = shared (c .before .before .before .before .before .before .before .before) in
-    let n = c .before .before .before .before .before .before .before .before .before .before .before .before .before .before .args .n in
-    omega (arith, products n (n - 1) (s .eight) (omega (arith, s .eight)))
+    (s .two, s .eight, omega arith, record { large = s .modulus; small = omega arith }, call-drawn _ _ _ _ _ _ h, omega (arith, call-room _ _ _ _ _ _ h))
 
 same-length : tie.Need-same-length
 same-length c = search needs
@@ -71,11 +63,13 @@ same-length c = search needs
 returns-2 : tie.Need-returns-2
 unfolding converted
 returns-2 c =
-    let a = c .before .before .before .before .before .before .before .before .before .before .before .before .before .before .args in
-    let s = shared (c .before .before .before .before .before .before .before .before) in
-    let e = c .before .before .before .before .before .before in (
-      ap (outcome (Done _)) (c .before .before .convert-at .ensures ∙ ap (overwrite (a .out .now) 0) (bit-alone (a .n) (a .q) (a .bits .now) (a .words .now) (e .copy-eight .last .0) (s .modulus) (omega (arith, s .two)) (s .below) (gathered e)))
-          ∙ settles-accepted _ _ (c .before .before .before .before .before .before .before .before .before .before .check-bit .ensures) _ _ _ (c .before .before .before .before .before .before .before .before .enum-told .given .1),
+    let t = c .before .before .before .before .before .before .before .before in
+    let a = t .before .before .before .before .before .before .args in
+    let s = shared t in
+    let e = c .before .before .before .before .before .before in
+    let r = c .before .before .convert-at .ensures in (
+      ap₂ (λ (p : ℕ) (out : List ℕ). outcome (Done p) out) (r .1) (r .0 ∙ ap (overwrite (a .out .now) 0) (bit-alone (a .n) (a .q) (a .bits .now) (a .words .now) (a .start) (e .copy-eight .last .0) (s .modulus) (omega (arith, s .two)) (s .below) (gathered e)))
+          ∙ settles-accepted _ _ (t .before .before .check-bit .ensures) _ _ _ (t .enum-told .given .1),
       bit-secrecy _ _,
     )
 
@@ -90,7 +84,5 @@ convert-bit-spec =
     slice-aggregate-copy-eight
     copy-eight-requires
     convert-at-requires
-    sub-t9
-    mul-t16
     same-length
     returns-2)

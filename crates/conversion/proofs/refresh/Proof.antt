@@ -175,7 +175,12 @@ same-length c = search needs
 returns : tie.Need-returns Inv-loop2 μ-loop2 Inv-loop μ-loop
 returns c =
     let s = c .before .before .before .before .before .args in
-    c .before .loop .inv .4 ∙ written-all _ _ _ _ (omega (arith, length-table (s .n) (refresh (s .q) (s .n) (after (s .start) (at (s .words .now))) (at (s .shares)))))
+    let l = c .before .loop in
+    let z : s .n - l .i ≡ 0 = omega arith in
+    let e : pairs (s .n - l .i) ≡ 0 = rw z (unfold pairs in refl) in (
+      l .inv .4 ∙ written-all _ _ _ _ (omega (arith, length-table (s .n) (refresh (s .q) (s .n) (after (s .start) (at (s .words .now))) (at (s .shares))))),
+      omega (arith, l .inv .2),
+    )
 
 pub refresh-spec : {M : Type 1} → statement M
 refresh-spec =

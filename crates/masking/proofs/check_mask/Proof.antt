@@ -26,7 +26,7 @@ past4 : (c : tie.Else4) → Past (checks (c .before .before .before .before .bef
 past4 c = past3 (c .before) ∙ pass tt _ _ (eq-eqb _ _ (c .if4 .left))
 
 past5 : (c : tie.After-enum-told) → Past (checks (c .before .before .before .before .before .before .before .before .before .before .before)) 5
-past5 c = past4 (c .before .before .before) ∙ pass-none tt _ _ _ _ (search-none (c .before .before .first-wide .ensures) (c .enum-told .given .1))
+past5 c = past4 (c .before .before .before) ∙ pass-none tt _ _ _ _ _ (search-none (c .before .before .first-wide .ensures) (c .enum-told .given .1))
 
 past6 : (c : tie.Else5) → Past (checks (c .before .before .before .before .before .before .before .before .before .before .before .before)) 6
 past6 c =
@@ -79,7 +79,7 @@ refuse-requires-5 : tie.Need-refuse-requires-5
 refuse-requires-5 c κs = search needs
 
 returns-5 : tie.Need-returns-5
-returns-5 c = c .refuse5 .ensures ∙ sym (past4 (c .before .before .before .before .before) ∙ fail-some tt _ _ _ _ _ (search-some (c .before .before .before .before .first-wide .ensures) (c .before .before .i .given .1)))
+returns-5 c = c .refuse5 .ensures ∙ sym (past4 (c .before .before .before .before .before) ∙ fail-some tt _ _ _ _ _ _ (search-some (c .before .before .before .before .first-wide .ensures) (c .before .before .i .given .1)))
 
 enum-told : tie.Need-enum-told
 enum-told c = search needs

@@ -33,7 +33,7 @@ whole q n l e = ap (firstNotBelow q) (take-all (1 * n) l (omega arith))
 past4 : (c : tie.After-enum-told) → Past (checks (c .before .before .before .before .before .before .before .before)) 4
 past4 c =
     past3 (c .before .before .before)
-    ∙ pass-none tt _ _ _ _ (sym (whole _ _ _ (c .before .before .before .if3 .left)) ∙ search-none (c .before .before .first-not-below .ensures) (c .enum-told .given .1))
+    ∙ pass-none tt _ _ _ _ _ (sym (whole _ _ _ (c .before .before .before .if3 .left)) ∙ search-none (c .before .before .first-not-below .ensures) (c .enum-told .given .1))
 
 within-requires : tie.Need-within-requires
 within-requires c κs = search needs
@@ -69,7 +69,7 @@ returns-4 : tie.Need-returns-4
 returns-4 c =
     c .refuse4 .ensures
     ∙ sym (past3 (c .before .before .before .before .before)
-    ∙ fail-some tt _ _ _ _ _ (sym (whole _ _ _ (c .before .before .before .before .before .if3 .left)) ∙ search-some (c .before .before .before .before .first-not-below .ensures) (c .before .before .i .given .1)))
+    ∙ fail-some tt _ _ _ _ _ _ (sym (whole _ _ _ (c .before .before .before .before .before .if3 .left)) ∙ search-some (c .before .before .before .before .first-not-below .ensures) (c .before .before .i .given .1)))
 
 enum-told : tie.Need-enum-told
 enum-told c = search needs

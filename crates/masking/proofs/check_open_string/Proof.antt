@@ -22,7 +22,7 @@ past3 : (c : tie.Else3) → Past (checks (c .before .before .before .before .bef
 past3 c = past2 (c .before) ∙ pass tt _ _ (eq-eqb _ _ (c .if3 .left))
 
 past4 : (c : tie.After-enum-told) → Past (checks (c .before .before .before .before .before .before .before .before .before)) 4
-past4 c = past3 (c .before .before .before) ∙ pass-none tt _ _ _ _ (search-none (c .before .before .first-wide .ensures) (c .enum-told .given .1))
+past4 c = past3 (c .before .before .before) ∙ pass-none tt _ _ _ _ _ (search-none (c .before .before .first-wide .ensures) (c .enum-told .given .1))
 
 within-requires : tie.Need-within-requires
 within-requires c κs = search needs
@@ -58,7 +58,7 @@ refuse-requires-4 : tie.Need-refuse-requires-4
 refuse-requires-4 c κs = search needs
 
 returns-4 : tie.Need-returns-4
-returns-4 c = c .refuse4 .ensures ∙ sym (past3 (c .before .before .before .before .before) ∙ fail-some tt _ _ _ _ _ (search-some (c .before .before .before .before .first-wide .ensures) (c .before .before .i .given .1)))
+returns-4 c = c .refuse4 .ensures ∙ sym (past3 (c .before .before .before .before .before) ∙ fail-some tt _ _ _ _ _ _ (search-some (c .before .before .before .before .first-wide .ensures) (c .before .before .i .given .1)))
 
 enum-told : tie.Need-enum-told
 enum-told c = search needs
