@@ -21,6 +21,10 @@ after-zero f = fun-ext (λ i. ap f (N.zero-add i))
 pub after-after : (m n : ℕ) (f : ℕ → ℕ) → after n (after m f) ≡ after (m + n) f
 after-after m n f = fun-ext (λ i. ap f (omega arith))
 
+-- from a position that is n behind m
+pub after-at : (m n p : ℕ) (f : ℕ → ℕ) → p ≡ m + n → after p f ≡ after n (after m f)
+after-at m n p f e = ap (λ (s : ℕ). after s f) e ∙ sym (after-after m n f)
+
 pub drop-after : (n : ℕ) (l : List ℕ) → at (drop n l) ≡ after n (at l)
 drop-after n l = fun-ext (λ i. getD-drop n l i 0)
 

@@ -1,11 +1,11 @@
 -- Facts of the code's steps.
-use mathlib.Core.Path.{_≡_, refl, ap, _∙_}
+use mathlib.Core.Path.{_≡_, refl, sym, ap, _∙_}
 use mathlib.Core.List.{List, _++_}
-use Prim.Native.Nat.{ℕ, _+_, _-_, _*_, _≤_, _<_}
+use Prim.Native.Nat.{ℕ, _+_, _*_, _≤_, _<_}
 use native.Mathlib.Nat as N
 use native.Mathlib.Omega.{arith}
 use lib.Arith.{digits-lt}
-use lib.ListN.{length, take, drop, length-append, List·getD-append}
+use lib.ListN.{length, drop, length-append, List·getD-append}
 use lib.Seq.{getD-append-add}
 use Rattle.residue.specs.Residue.{EachBelow}
 use Rattle.residue.specs.Laws.{sub-cong}
@@ -13,17 +13,17 @@ use Rattle.residue.specs.Sum.{sum-cong, each-below-append}
 use Rattle.buffers.specs.Overwrite.{overwrite}
 use Rattle.buffers.specs.Laws.{length-overwrite, overwrite-append, front-below, drop-front}
 use Rattle.buffers.specs.Positions.{at, table, rows, after, Below}
-use Rattle.buffers.specs.PositionLaws.{part-after, table-same}
+use Rattle.buffers.specs.PositionLaws.{after-at, drop-after, table-same}
 use Rattle.buffers.specs.Rows.{length-rows, rows-at, rows-below}
-use Rattle.conversion.specs.Conversion.{bitWords}
+use Rattle.conversion.specs.Conversion.{convertBit, bitsAt, bitWords}
 use Rattle.conversion.specs.Arrays.{Drawn}
 use Rattle.sampler.specs.Sampler.{row, stringShare, sampleShare, sampleShares, workLength}
 use Rattle.sampler.specs.Columns.{columnShare}
 
--- rows of words that are lent from `start` on
-pub rows-behind : (k q n start to : ℕ) (x words before work : List ℕ) → work ≡ overwrite before to (rows k n (row q n (at x) (at (take (length words - start) (drop start words)))))
-    → work ≡ overwrite before to (rows k n (row q n (at x) (after start (at words))))
-rows-behind k q n start to x words before work e = e ∙ ap (λ (w : ℕ → ℕ). overwrite before to (rows k n (row q n (at x) w))) (part-after start words)
+-- a row whose words begin at a position of the list
+pub row-from : (n q t : ℕ) (x w v : ℕ → ℕ) → v ≡ after (t * bitWords n) w → table n (convertBit q n (bitsAt x t) v) ≡ table n (row q n x w t)
+unfolding row
+row-from n q t x w v e = ap (λ (u : ℕ → ℕ). table n (convertBit q n (bitsAt x t) u)) e
 
 -- ---- the work area with the rows of both strings
 
@@ -89,10 +89,13 @@ module _ (k n : ℕ) (f g : ℕ → ℕ → ℕ) where
     pub filled-kept : drop (workLength n k) work ≡ drop (workLength n k) before
     filled-kept = ap (drop (workLength n k)) filled ∙ drop-front before both-rows (workLength n k) length-both
 
--- the columns of both strings' rows sum to the shares
-pub columns-shares : (n k q : ℕ) (x y words before first work : List ℕ) (e : first ≡ overwrite before 0 (rows k n (row q n (at x) (at words))))
-    (d : work ≡ overwrite first (k * n) (rows k n (row q n (at y) (after (k * bitWords n) (at words)))))
-    → table n (columnShare q n k (at work)) ≡ sampleShares n k q x y words
+-- the columns of both strings' rows, whose words begin at `start` and at `half`, sum to the shares
+pub columns-shares : (n k q start half : ℕ) (x y words before first work : List ℕ) (e : first ≡ overwrite before 0 (rows k n (row q n (at x) (after start (at words)))))
+    (d : work ≡ overwrite first (k * n) (rows k n (row q n (at y) (after half (at words))))) → half ≡ start + k * bitWords n
+    → table n (columnShare q n k (at work)) ≡ sampleShares n k q x y (drop start words)
 unfolding sampleShares sampleShare stringShare
-columns-shares n k q x y words before first work e d =
-    table-same n _ _ (λ i l. sub-cong refl (sum-cong q k _ _ (λ t h. filled-first k n _ _ before first work e d t i h l)) (sum-cong q k _ _ (λ t h. filled-second k n _ _ before first work e d t i h l)))
+columns-shares n k q start half x y words before first work e d h =
+    let w = after start (at words) in
+    let f = d ∙ ap (λ (v : ℕ → ℕ). overwrite first (k * n) (rows k n (row q n (at y) v))) (after-at start (k * bitWords n) half (at words) h) in
+    table-same n _ (sampleShare q n k (at x) (at y) w) (λ i l. sub-cong refl (sum-cong q k _ _ (λ t h. filled-first k n _ _ before first work e f t i h l)) (sum-cong q k _ _ (λ t h. filled-second k n _ _ before first work e f t i h l)))
+    ∙ ap (λ (w : ℕ → ℕ). table n (sampleShare q n k (at x) (at y) w)) (sym (drop-after start words))

@@ -1,6 +1,6 @@
 -- What it means, in plain facts, that a call passes its checks.
 use mathlib.Core.Path.{_≡_}
-use mathlib.Core.List.{List}
+use mathlib.Core.List.{List, _++_}
 use Prim.Native.Nat.{ℕ, _+_, _-_, _*_, _^_, _≤_, _<_}
 use native.Mathlib.Nat as N
 use native.Mathlib.Omega.{arith}
@@ -10,6 +10,7 @@ use Rattle.residue.specs.Residue.{EachBelow}
 use Rattle.checks.specs.Checks.{Check, wordChecks, roomChecks, bufferChecks}
 use Rattle.checks.specs.Laws.{Hold, hold-front, hold-rest, hold-both, within-true, none-each-below}
 use Rattle.conversion.specs.Conversion.{bitWords}
+use Rattle.conversion.specs.Laws.{bitWords-some}
 use Rattle.conversion.specs.Arrays.{Drawn, words-drawn, drawn-words}
 use Rattle.sampler.specs.Sampler.{sampleWords, workLength, pairChecks, sampleChecks}
 use Rattle.sampler.specs.Secrecy.{Room}
@@ -43,21 +44,34 @@ pub record SharedPair (n k q : ℕ) (x y : List ℕ) : Type 0 where
 pub pair-large : {n k q : ℕ} {x y : List ℕ} → SharedPair n k q x y → 2 < q
 pair-large P = omega (arith, P .one, P .modulus)
 
--- words and room, of a call that asks for `count` words and for room for so many shares and zeros
-module _ (count q : ℕ) (words : List ℕ) (shares zeros : ℕ) (out work : List ℕ) where
-  abbrev Fit : Type 0
-  Fit = Hold (bufferChecks count q words shares (length out) zeros (length work))
+pub words-some : {n k q : ℕ} {x y : List ℕ} → SharedPair n k q x y → 0 < sampleWords n k
+words-some {n} {k} P =
+    let b : 1 ≤ 2 * k = omega (arith, P .one) in
+    omega (arith, N.mul-le-mul b (bitWords-some n (P .two)))
 
-  pub fit-drawn : Fit → Drawn q 0 count words
-  fit-drawn h = words-drawn q count words (hold-front (wordChecks count q words) (roomChecks shares (length out) zeros (length work)) h)
+-- Words and room, of a call that puts the checks `first` before those of its buffers, and asks for `count` words from `start` on and for room
+-- for so many shares and zeros.
+module _ (first : List Check) (start count q : ℕ) (words : List ℕ) (shares zeros : ℕ) (out work : List ℕ) where
+  abbrev buffers : List Check
+  buffers = bufferChecks start count q words shares (length out) zeros (length work)
 
-  pub fit-room : Fit → Room shares zeros out work
-  fit-room h = (leb-true _ _ (h .1 .1 .0), leb-true _ _ (h .1 .1 .1 .0))
+  pub fit-first : Hold (first ++ buffers) → Hold first
+  fit-first h = hold-front first buffers h
 
-  pub drawn-fit : Drawn q 0 count words → Room shares zeros out work → Fit
-  drawn-fit d r =
-      hold-both (wordChecks count q words) (roomChecks shares (length out) zeros (length work)) (drawn-words q count words d)
-      (le-leb _ _ (r .0), (le-leb _ _ (r .1), tt))
+  pub fit-drawn : Hold (first ++ buffers) → Drawn q start count words
+  fit-drawn h = words-drawn q start count words (hold-front (wordChecks start count q words) (roomChecks shares (length out) zeros (length work)) (hold-rest first buffers h))
+
+  pub fit-room : Hold (first ++ buffers) → Room shares zeros out work
+  fit-room h =
+      let r = hold-rest first buffers h in
+      (leb-true _ _ (r .1 .1 .0), leb-true _ _ (r .1 .1 .1 .0))
+
+  -- with enough words below q, and room, it is accepted where its first checks hold
+  pub fit-holds : Hold first → Drawn q start count words → Room shares zeros out work → Hold (first ++ buffers)
+  fit-holds h d r =
+      hold-both first buffers h
+      (hold-both (wordChecks start count q words) (roomChecks shares (length out) zeros (length work)) (drawn-words q start count words d)
+      (le-leb _ _ (r .0), (le-leb _ _ (r .1), tt)))
 
 module _ (n k q : ℕ) (x y : List ℕ) where
   pub shared-pair : Hold (pairChecks n k q x y) → SharedPair n k q x y
@@ -74,25 +88,5 @@ module _ (n k q : ℕ) (x y : List ℕ) where
         y-narrow = none-each-below (2 ^ k) y 0 (h .1 .1 .1 .1 .1 .1 .0);
       }
 
-  module _ (words out work : List ℕ) where
-    abbrev Passes : Type 0
-    Passes = Hold (sampleChecks n k q x y words (length out) (length work))
-
-    abbrev buffers : List Check
-    buffers = bufferChecks (sampleWords n k) q words n (length out) (workLength n k) (length work)
-
-    pub call-checks : Passes → Hold (pairChecks n k q x y)
-    call-checks h = hold-front (pairChecks n k q x y) buffers h
-
-    pub call-pair : Passes → SharedPair n k q x y
-    call-pair h = shared-pair (call-checks h)
-
-    pub call-drawn : Passes → Drawn q 0 (sampleWords n k) words
-    call-drawn h = fit-drawn (sampleWords n k) q words n (workLength n k) out work (hold-rest (pairChecks n k q x y) buffers h)
-
-    pub call-room : Passes → Room n (workLength n k) out work
-    call-room h = fit-room (sampleWords n k) q words n (workLength n k) out work (hold-rest (pairChecks n k q x y) buffers h)
-
-    -- with enough words below q, and room, a pair of shared strings is accepted
-    pub call-holds : Hold (pairChecks n k q x y) → Drawn q 0 (sampleWords n k) words → Room n (workLength n k) out work → Passes
-    call-holds h d r = hold-both (pairChecks n k q x y) buffers h (drawn-fit (sampleWords n k) q words n (workLength n k) out work d r)
+  pub call-checks : (words : List ℕ) (start : ℕ) (out work : List ℕ) → Hold (sampleChecks n k q x y words start (length out) (length work)) → Hold (pairChecks n k q x y)
+  call-checks words start out work h = fit-first (pairChecks n k q x y) start (sampleWords n k) q words n (workLength n k) out work h

@@ -68,6 +68,7 @@ module _ (n k q : ℕ) (x y : List ℕ) (h : Hold (pairChecks n k q x y)) where
       ∙ sym plain-difference
 
 -- the shares that an accepted call leaves
-pub call-opened : (n k q : ℕ) (x y words out work : List ℕ) → Hold (sampleChecks n k q x y words (length out) (length work))
-    → openedResidue n q (take n (sampled n k q x y words out work .buffers .out)) ≡ accepted (reduceℤ q (differenceOfWeights (xorAll x) (xorAll y)))
-call-opened n k q x y words out work h = shares-opened n k q x y (call-checks n k q x y words out work h) (call-samples n k q x y words out work h .shares)
+pub call-opened : (n k q : ℕ) (x y words : List ℕ) (start : ℕ) (out work : List ℕ) → Hold (sampleChecks n k q x y words start (length out) (length work))
+    → openedResidue n q (take n (sampled n k q x y words start out work .buffers .out)) ≡ accepted (reduceℤ q (differenceOfWeights (xorAll x) (xorAll y)))
+call-opened n k q x y words start out work h =
+    shares-opened n k q x y (call-checks n k q x y words start out work h) (call-samples n k q x y words start out work h .shares)

@@ -1,8 +1,8 @@
 -- The masked binomial sampler (document 01: 'The sample', 'Questions put to a call'; source 003, Algorithm 10).
 -- Shares and words are functions of the position. Shares are counted from 0 here, from 1 on the page.
 use mathlib.Core.List.{List, _++_}
-use Prim.Native.Nat.{ℕ, _*_}
-use lib.ListN.{length, replicate}
+use Prim.Native.Nat.{ℕ, _+_, _*_}
+use lib.ListN.{length, drop, replicate}
 use Rattle.residue.specs.Residue.{sub, sum}
 use Rattle.buffers.specs.Overwrite.{overwrite}
 use Rattle.buffers.specs.Positions.{at, table, after}
@@ -41,8 +41,8 @@ workLength n k = 2 * k * n
 abbrev pub pairChecks : ℕ → ℕ → ℕ → List ℕ → List ℕ → List Check
 pairChecks n k q x y = parameterChecks n k q ++ shareChecks n k x y
 
-abbrev pub sampleChecks : ℕ → ℕ → ℕ → List ℕ → List ℕ → List ℕ → ℕ → ℕ → List Check
-sampleChecks n k q x y words room area = pairChecks n k q x y ++ bufferChecks (sampleWords n k) q words n room (workLength n k) area
+abbrev pub sampleChecks : ℕ → ℕ → ℕ → List ℕ → List ℕ → List ℕ → ℕ → ℕ → ℕ → List Check
+sampleChecks n k q x y words start room area = pairChecks n k q x y ++ bufferChecks start (sampleWords n k) q words n room (workLength n k) area
 
 -- output and work area
 pub record Buffers : Type 0 where
@@ -52,11 +52,12 @@ pub record Buffers : Type 0 where
 abbrev pub both : List ℕ → List ℕ → Buffers
 both out work = record { out = out; work = work }
 
--- A call that passes its checks answers the count of its words, and leaves the shares in front of the output, zeros in front of the work
--- area, and the rest as it was.
+-- A call that passes its checks answers the position after its last word, and leaves the shares in front of the output, zeros in front of the
+-- work area, and the rest as it was.
 abbrev pub sharesWritten : List Check → ℕ → List ℕ → ℕ → List ℕ → List ℕ → Outcome ℕ Buffers
-sharesWritten checks count shares zeros out work = settled (verdict checks count) (both out work) (both (overwrite out 0 shares) (overwrite work 0 (replicate zeros 0)))
+sharesWritten checks end shares zeros out work = settled (verdict checks end) (both out work) (both (overwrite out 0 shares) (overwrite work 0 (replicate zeros 0)))
 
-unfoldable pub sampled : ℕ → ℕ → ℕ → List ℕ → List ℕ → List ℕ → List ℕ → List ℕ → Outcome ℕ Buffers
-sampled n k q x y words out work =
-    sharesWritten (sampleChecks n k q x y words (length out) (length work)) (sampleWords n k) (sampleShares n k q x y words) (workLength n k) out work
+-- The call takes the words from `start` on (document 02, A.2).
+unfoldable pub sampled : ℕ → ℕ → ℕ → List ℕ → List ℕ → List ℕ → ℕ → List ℕ → List ℕ → Outcome ℕ Buffers
+sampled n k q x y words start out work =
+    sharesWritten (sampleChecks n k q x y words start (length out) (length work)) (start + sampleWords n k) (sampleShares n k q x y (drop start words)) (workLength n k) out work

@@ -3,21 +3,20 @@ use mathlib.Core.Path.{_≡_, sym, ap, _∙_}
 use mathlib.Core.List.{List}
 use Prim.Native.Nat.{ℕ, zero, suc, _+_, _≤_, _<_}
 use native.Mathlib.Omega.{arith}
-use lib.ListN.{take}
-use lib.Seq.{getD-take}
+use lib.ListN.{length}
 use Rattle.buffers.specs.Positions.{at, Same}
 use Rattle.buffers.specs.PositionLaws.{after-zero}
-use Rattle.checks.specs.Laws.{accepted-holds}
-use Rattle.secrecy.specs.Secrecy.{Full, Indistinguishable, AgreeBut}
-use Rattle.secrecy.specs.Laws.{weaken}
+use Rattle.checks.specs.Laws.{Hold, accepted-holds}
+use Rattle.secrecy.specs.Secrecy.{Full, inside, Indistinguishable, AgreeBut}
+use Rattle.secrecy.specs.Laws.{weaken, inside-taken, agree-front}
 use Rattle.secrecy.specs.Translation.{indistinguishable}
 use Rattle.conversion.specs.Conversion.{bitWords}
-use Rattle.conversion.specs.Arrays.{full-drawn}
+use Rattle.conversion.specs.Arrays.{inside-drawn}
 use Rattle.conversion.specs.Translation.{refreshWords}
-use Rattle.sampler.specs.Sampler.{sampleShare, sampleShares, sampleWords, pairChecks}
-use Rattle.sampler.specs.Secrecy.{Secrecy}
-use Rattle.sampler.specs.Accepted.{pair-large, shared-pair, call-holds}
-use Rattle.sampler.specs.Calls.{shares-at, call-shares, call-samples}
+use Rattle.sampler.specs.Sampler.{sampleShare, sampleShares, sampleWords, workLength, pairChecks, sampled}
+use Rattle.sampler.specs.Secrecy.{Samples, Room, Secrecy}
+use Rattle.sampler.specs.Accepted.{pair-large, shared-pair, fit-holds}
+use Rattle.sampler.specs.Calls.{shares-at, call-samples}
 use Rattle.sampler.specs.Translation.{sampleForm, share-form, sample-equivariant}
 
 -- ---- the shares
@@ -40,10 +39,12 @@ shares-secrecy n (suc m) q ℓ large one l x y x′ y′ =
 
 -- ---- the whole calls
 
--- shares that stand in front of two outputs
-agree-front : (ℓ n : ℕ) (out out′ : List ℕ) {shares shares′ : List ℕ} → take n out ≡ shares → take n out′ ≡ shares′ → AgreeBut ℓ n shares shares′ → AgreeBut ℓ n out out′
-agree-front ℓ n out out′ e e′ same i b d =
-    sym (getD-take n out i 0 b) ∙ ap (λ (l : List ℕ). at l i) e ∙ same i b d ∙ sym (ap (λ (l : List ℕ). at l i) e′) ∙ getD-take n out′ i 0 b
+-- a call on a full list between others
+module _ (n k q : ℕ) (x y : List ℕ) (h : Hold (pairChecks n k q x y)) (words : List ℕ) (f : Full q (sampleWords n k) words) (before behind out work : List ℕ) (r : Room n (workLength n k) out work) where
+  inside-samples : Samples n k q x y words (length before) (sampled n k q x y (inside before words behind) (length before) out work)
+  inside-samples =
+      rw (inside-taken f before behind) at (call-samples n k q x y (inside before words behind) (length before) out work
+      (fit-holds (pairChecks n k q x y) (length before) (sampleWords n k) q (inside before words behind) n (workLength n k) out work h (inside-drawn f before behind) r))
 
 pub secrecy : (n k q : ℕ) → Secrecy n k q
 unfolding Secrecy
@@ -52,12 +53,8 @@ secrecy n k q ℓ l x y x′ y′ a a′ =
     let h′ = accepted-holds tt tt (pairChecks n k q x′ y′) a′ in
     let P = shared-pair n k q x y h in
     weaken
-    (λ v w f g same out work out′ work′ r r′.
-    let c = call-holds n k q x y v out work h (full-drawn f) r in
-    let c′ = call-holds n k q x′ y′ w out′ work′ h′ (full-drawn g) r′ in
-    record {
-      one = call-samples n k q x y v out work c;
-      other = call-samples n k q x′ y′ w out′ work′ c′;
-      agree = agree-front ℓ n _ _ (call-shares n k q x y v out work c) (call-shares n k q x′ y′ w out′ work′ c′) same;
-    })
+    (λ v w f g same before behind out work out′ work′ r r′.
+    let one = inside-samples n k q x y h v f before behind out work r in
+    let other = inside-samples n k q x′ y′ h′ w g before behind out′ work′ r′ in
+    record { one = one; other = other; agree = agree-front ℓ n _ _ (one .shares .steps) (other .shares .steps) same })
     (shares-secrecy n k q ℓ (pair-large P) (P .one) l x y x′ y′)

@@ -1,8 +1,8 @@
 -- The measure is the number of shares. One share is its own list; each further one is added to the list of those before it.
-use mathlib.Core.Path.{_≡_, sym, ap, _∙_}
+use mathlib.Core.Path.{_≡_}
 use native.Mathlib.Omega.{arith}
-use Rattle.buffers.specs.Positions.{at, after}
-use Rattle.buffers.specs.PositionLaws.{after-after}
+use Rattle.buffers.specs.Positions.{at}
+use Rattle.buffers.specs.PositionLaws.{after-at}
 use Rattle.checks.specs.Width.{bit-lt}
 use Rattle.conversion.specs.Conversion.{pairs}
 use Rattle.conversion.specs.Arrays.{drawn-part}
@@ -199,7 +199,7 @@ convert-returns-2 t c =
     let l = d .convert .ensures in
     let f = pairs-step (s .j) k (omega arith) in (
       share-added _ _ _ _ _ _ _ _ _ (omega arith) (omega arith)
-          (ap (λ (p : ℕ). after p (at (s .words .now))) (l .1) ∙ sym (after-after (s .start) (pairs k) (at (s .words .now)))) (c .before .before .bit2 .ensures) (l .0) (c .before .xor-share .ensures),
+          (after-at _ _ _ (at (s .words .now)) (l .1)) (c .before .before .bit2 .ensures) (l .0) (c .before .xor-share .ensures),
       omega arith,
     )
 

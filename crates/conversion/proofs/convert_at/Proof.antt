@@ -1,10 +1,9 @@
 -- Steps 1 and 2 with the first half of the words, step 3 with the second.
-use mathlib.Core.Path.{_≡_, sym, ap, _∙_}
-use Prim.Native.Nat.{ℕ, _+_}
+use mathlib.Core.Path.{ap, _∙_}
 use native.Mathlib.Omega.{arith}
 use Rattle.buffers.specs.Overwrite.{overwrite}
-use Rattle.buffers.specs.Positions.{at, after}
-use Rattle.buffers.specs.PositionLaws.{after-after}
+use Rattle.buffers.specs.Positions.{at}
+use Rattle.buffers.specs.PositionLaws.{after-at}
 use Rattle.checks.specs.Width.{bit-lt}
 use Rattle.conversion.specs.Conversion.{pairs}
 use Rattle.conversion.specs.Laws.{pairs-twice}
@@ -48,7 +47,7 @@ returns c =
     let b = bit-lt (at (a .shares .now) 0) (a .t) in (
       c .before .before .refresh .ensures .0
           ∙ ap (overwrite (a .out .now) (a .to))
-          (bit-done _ _ _ _ _ _ (omega arith) (ap (λ (p : ℕ). after p (at (a .words .now))) (l .1) ∙ sym (after-after (a .start) (pairs (a .n)) (at (a .words .now)))) (l .0)),
+          (bit-done _ _ _ _ _ _ (omega arith) (after-at _ _ _ (at (a .words .now)) (l .1)) (l .0)),
       omega (arith, c .before .before .refresh .ensures .1, l .1, pairs-twice (a .n)),
     )
 

@@ -1,18 +1,19 @@
 -- The checks' verdict; a refusal comes before anything is written, and behind the checks all is ready for the sample.
-use mathlib.Core.Path.{_≡_, ap, ap₂, _∙_}
-use Prim.Native.Nat.{ℕ, _≤_}
+use mathlib.Core.Path.{_≡_, refl, ap, _∙_}
+use Prim.Native.Nat.{ℕ, _+_}
 use native.Mathlib.Omega.{arith}
-use lib.ListN.{length, replicate, length-replicate}
+use lib.ListN.{length, drop, replicate, length-replicate}
 use borrow.Author.Needs.{needs}
 use Rattle.buffers.specs.Overwrite.{overwrite}
 use Rattle.buffers.specs.Laws.{front-again}
 use Rattle.buffers.specs.PositionLaws.{front-same}
-use Rattle.checks.specs.declared.Answer.the-variants.{Done}
-use Rattle.checks.specs.Answers.{outcome}
+use Rattle.conversion.specs.Arrays.{Drawn}
 use Rattle.checks.specs.Laws.{Hold, checks-hold, settles-accepted, settles-refused}
-use Rattle.sampler.specs.Sampler.{sampleWords, sampleShares, workLength, sampleChecks, both, sampled}
-use Rattle.sampler.specs.Accepted.{Small, small, SharedPair, pair-large, call-pair, call-drawn, call-room}
-use Rattle.sampler.specs.Calls.{shares-front}
+use Rattle.sampler.specs.Sampler.{sampleWords, sampleShares, workLength, pairChecks, sampleChecks, both, sampled}
+use Rattle.sampler.specs.Secrecy.{Room}
+use Rattle.sampler.specs.Accepted.{Small, small, SharedPair, shared-pair, pair-large, fit-drawn, fit-room, call-checks}
+use Rattle.sampler.specs.Calls.{shares-local}
+use Rattle.sampler.specs.Written.{answered}
 use Rattle.sampler.specs.SecrecyProof.{secrecy}
 use Rattle.sampler.proofs.sample.Statement.{statement}
 use Rattle.sampler.proofs.sample.Tie as tie
@@ -27,24 +28,30 @@ passed c = c .before .before .before .before .before .before .before .before .be
 abbrev there : tie.After-slice-known5 → tie.After-write-sample
 there c = c .before .before .before .before .before .before .before .before
 
-holds : (c : tie.After-enum-told) → let a = start c .args in Hold (sampleChecks (a .n) (a .k) (a .q) (a .x .now) (a .y .now) (a .words .now) (length (a .out .now)) (length (a .work .now)))
+holds : (c : tie.After-enum-told) → let a = start c .args in Hold (sampleChecks (a .n) (a .k) (a .q) (a .x .now) (a .y .now) (a .words .now) (a .start) (length (a .out .now)) (length (a .work .now)))
 holds c = checks-hold _ _ (c .before .before .check-sample .ensures) (c .enum-told .given .1)
 
 pair : (c : tie.After-enum-told) → let a = start c .args in SharedPair (a .n) (a .k) (a .q) (a .x .now) (a .y .now)
-pair c = let a = start c .args in call-pair _ _ _ _ _ _ (a .out .now) (a .work .now) (holds c)
+pair c = let a = start c .args in shared-pair _ _ _ _ _ (call-checks _ _ _ _ _ _ (a .start) (a .out .now) (a .work .now) (holds c))
+
+drawn : (c : tie.After-enum-told) → let a = start c .args in Drawn (a .q) (a .start) (sampleWords (a .n) (a .k)) (a .words .now)
+drawn c = let a = start c .args in fit-drawn (pairChecks (a .n) (a .k) (a .q) (a .x .now) (a .y .now)) _ _ _ _ _ _ (a .out .now) (a .work .now) (holds c)
+
+room : (c : tie.After-enum-told) → let a = start c .args in Room (a .n) (workLength (a .n) (a .k)) (a .out .now) (a .work .now)
+room c = let a = start c .args in fit-room (pairChecks (a .n) (a .k) (a .q) (a .x .now) (a .y .now)) (a .start) (sampleWords (a .n) (a .k)) (a .q) (a .words .now) _ _ (a .out .now) (a .work .now) (holds c)
 
 sizes : (c : tie.After-enum-told) → let a = start c .args in Small (a .n) (a .k)
 sizes c = small _ _ (pair c .eight) (pair c .sixteen)
 
 -- the shares stand in front of the arrays
-gathered : (c : tie.After-write-sample) → let a = start (passed c) .args in c .write-sample .last .1 .1 .1 .1 .1 .1 .0 ≡ overwrite (a .out .now) 0 (sampleShares (a .n) (a .k) (a .q) (a .x .now) (a .y .now) (a .words .now))
+gathered : (c : tie.After-write-sample) → let a = start (passed c) .args in c .write-sample .last .1 .1 .1 .1 .1 .1 .1 .0 ≡ overwrite (a .out .now) 0 (sampleShares (a .n) (a .k) (a .q) (a .x .now) (a .y .now) (drop (a .start) (a .words .now)))
 gathered c =
     let a = start (passed c) .args in
     let p = pair (passed c) in
     let x = front-same _ (a .x .now) _ 8 (c .before .before .before .before .before .before .before .before .before .copy-eight .ensures) (omega (arith, p .x-count, p .eight)) in
     let y = front-same _ (a .y .now) _ 8 (c .before .before .before .before .before .before .copy-eight2 .ensures) (omega (arith, p .y-count, p .eight)) in
     c .write-sample .ensures .0
-    ∙ ap (overwrite (a .out .now) 0) (shares-front (a .n) (a .k) (a .q) (pair-large p) _ (a .x .now) _ (a .y .now) (a .words .now) (λ i l. x i (omega (arith, p .x-count))) (λ i l. y i (omega (arith, p .y-count))))
+    ∙ ap (overwrite (a .out .now) 0) (shares-local (a .n) (a .k) (a .q) (pair-large p) _ (a .x .now) _ (a .y .now) _ _ (λ i l. x i (omega (arith, p .x-count))) (λ i l. y i (omega (arith, p .y-count))) (λ i l. refl))
 
 -- zeros over the rows
 cleared : (c : tie.After-slice-known5) → let a = start (passed (there c)) .args in c .before .before .zero .last .0 ≡ overwrite (a .work .now) 0 (replicate (workLength (a .n) (a .k)) 0)
@@ -80,10 +87,9 @@ copy-eight-requires-2 c κs = search needs
 write-sample-requires : tie.Need-write-sample-requires
 write-sample-requires c κs =
     let t = c .before .before .before .before .before .before .before .before .before .before in
-    let a = start t .args in
     let p = pair t in
-    let r = call-room _ _ _ _ _ _ (a .out .now) (a .work .now) (holds t) in
-    (p .two, p .eight, p .sixteen, record { large = pair-large p; small = omega arith }, call-drawn _ _ _ _ _ _ (a .out .now) (a .work .now) (holds t), r .0, r .1)
+    let r = room t in
+    (p .two, p .eight, p .sixteen, record { large = pair-large p; small = omega arith }, drawn t, r .0, r .1)
 
 mul-zero : tie.Need-mul-zero
 mul-zero c = omega (arith, sizes (passed (c .before .before .before .before .before)) .bits)
@@ -94,21 +100,8 @@ mul-zero-2 c = omega (arith, sizes (passed (c .before .before .before .before .b
 zero-requires : tie.Need-zero-requires
 zero-requires c κs =
     let t = passed (c .before .before .before .before .before) in
-    let a = start t .args in
-    let r : workLength (a .n) (a .k) ≤ length (a .work .now) = call-room _ _ _ _ _ _ (a .out .now) (a .work .now) (holds t) .1 in
+    let r = room t .1 in
     search needs
-
-mul-t13 : tie.Need-mul-t13
-mul-t13 c = omega (arith, sizes (passed (there c)) .bits)
-
-sub-t14 : tie.Need-sub-t14
-sub-t14 c = omega (arith, pair (passed (there c)) .two)
-
-mul-t30 : tie.Need-mul-t30
-mul-t30 c = omega (arith, sizes (passed (there c)) .per)
-
-mul-t31 : tie.Need-mul-t31
-mul-t31 c = omega (arith, sizes (passed (there c)) .words)
 
 same-length : tie.Need-same-length
 same-length c = search needs
@@ -121,9 +114,9 @@ unfolding sampled
 returns-2 c =
     let d = passed (there c) in
     let a = start d .args in
-    let count = sampleWords (a .n) (a .k) in (
-      ap₂ (λ o w. outcome (Done count) (both o w)) (gathered (there c)) (cleared c)
-          ∙ settles-accepted _ _ (d .before .before .check-sample .ensures) count (both (a .out .now) (a .work .now)) _ (d .enum-told .given .1),
+    let end = a .start + sampleWords (a .n) (a .k) in (
+      answered (there c .write-sample .ensures .2) (gathered (there c)) (cleared c)
+          ∙ settles-accepted _ _ (d .before .before .check-sample .ensures) end (both (a .out .now) (a .work .now)) _ (d .enum-told .given .1),
       secrecy _ _ _,
     )
 
@@ -143,10 +136,6 @@ sample-spec =
     mul-zero
     mul-zero-2
     zero-requires
-    mul-t13
-    sub-t14
-    mul-t30
-    mul-t31
     same-length
     same-length-2
     returns-2)

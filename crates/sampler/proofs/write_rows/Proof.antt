@@ -1,46 +1,37 @@
 -- The rows of the bits below `bit` stand in the work area.
-use mathlib.Core.Path.{_≡_, refl, _∙_}
+use mathlib.Core.Path.{_≡_, _∙_}
 use Prim.Native.Nat.{_+_, _-_, _*_, _≤_}
 use native.Mathlib.Omega.{arith}
 use lib.ListN.{length}
 use borrow.Author.Needs.{needs}
 use Rattle.buffers.specs.Overwrite.{overwrite}
-use Rattle.buffers.specs.Positions.{at, rows}
+use Rattle.buffers.specs.Positions.{at, rows, after}
+use Rattle.buffers.specs.PositionLaws.{after-at}
 use Rattle.buffers.specs.Rows.{rows-none, rows-next, rows-all, rows-length}
 use Rattle.buffers.specs.Blocks.{block-fits}
 use Rattle.conversion.specs.Arrays.{drawn-part}
 use Rattle.conversion.specs.Conversion.{bitWords}
 use Rattle.sampler.specs.Sampler.{row}
+use Rattle.sampler.proofs.Steps.{row-from}
 use Rattle.sampler.proofs.write_rows.Statement.{statement}
 use Rattle.sampler.proofs.write_rows.Tie as tie
 
 abbrev Inv-loop : tie.InvT-loop
-Inv-loop shares n k q words work₀ to bit₀ work bit = (bit ≤ k) × (work ≡ overwrite work₀ to (rows bit n (row q n (at shares) (at words))))
+Inv-loop shares n k q words start work₀ to p₀ bit₀ work p bit =
+    (bit ≤ k) × (work ≡ overwrite work₀ to (rows bit n (row q n (at shares) (after start (at words))))) × (p ≡ start + bit * bitWords n)
 
 abbrev μ-loop : tie.MeasureT-loop
-μ-loop shares n k q words work₀ to bit₀ work bit = k - bit
+μ-loop shares n k q words start work₀ to p₀ bit₀ work p bit = k - bit
 
--- the next row has its words and its room
-next-words : (c : tie.In-loop Inv-loop μ-loop) → let a = c .before .before .before .before .args in c .before .loop .bit * bitWords (a .n) + bitWords (a .n) ≤ length (a .words .now)
-next-words c = let s = c .before .before .before .before in omega (arith, block-fits (bitWords (s .args .n)) (c .loop-test .taken), s .pre .4 .room)
-
+-- the next row has its room
 next-row : (c : tie.In-loop Inv-loop μ-loop) → let a = c .before .before .before .before .args in a .to + (c .before .loop .bit * a .n + a .n) ≤ length (a .work .now)
 next-row c = let s = c .before .before .before .before in omega (arith, block-fits (s .args .n) (c .loop-test .taken), s .pre .5)
 
 loop-holds : tie.Need-loop-holds Inv-loop μ-loop
-loop-holds c = (omega arith, rows-none _ _ _ _)
-
-sub-convert-at : tie.Need-sub-convert-at Inv-loop μ-loop
-sub-convert-at c = search needs
+loop-holds c = (omega arith, rows-none _ _ _ _, omega arith)
 
 mul-convert-at : tie.Need-mul-convert-at Inv-loop μ-loop
-mul-convert-at c = omega (arith, next-words c)
-
-mul-convert-at-2 : tie.Need-mul-convert-at-2 Inv-loop μ-loop
-mul-convert-at-2 c = omega (arith, next-words c)
-
-mul-convert-at-3 : tie.Need-mul-convert-at-3 Inv-loop μ-loop
-mul-convert-at-3 c = omega (arith, next-row (c .before))
+mul-convert-at c = omega (arith, next-row (c .before))
 
 add-convert-at : tie.Need-add-convert-at Inv-loop μ-loop
 add-convert-at c = omega (arith, next-row (c .before))
@@ -55,7 +46,7 @@ convert-at-requires c κs =
       s .pre .1,
       omega arith,
       s .pre .3,
-      drawn-part _ (l .bit * w) _ (omega arith) (block-fits w (c .before .loop-test .taken)) (s .pre .4),
+      drawn-part _ (l .bit * w) _ (l .inv .2) (block-fits w (c .before .loop-test .taken)) (s .pre .4),
       omega (arith, rows-length _ _ _ _ _ _ (l .inv .1) (omega arith)),
     )
 
@@ -67,8 +58,11 @@ loop-less c = search needs
 
 loop-again : tie.Need-loop-again Inv-loop μ-loop
 loop-again c =
+    let a = c .before .before .before .before .before .before .before .before .args in
     let l = c .before .before .before .before .before .loop in
-    (omega arith, c .before .before .convert-at .ensures ∙ rows-next _ _ _ _ _ _ _ (l .inv .1) (unfold row in refl))
+    let r = c .before .before .convert-at .ensures in
+    let w = after-at (a .start) (l .bit * bitWords (a .n)) (l .p) (at (a .words .now)) (l .inv .2) in
+    (omega arith, r .0 ∙ rows-next _ _ _ _ _ _ _ (l .inv .1) (row-from _ _ _ _ _ _ w), omega (arith, r .1, l .inv .2))
 
 same-length : tie.Need-same-length Inv-loop μ-loop
 same-length c =
@@ -77,7 +71,9 @@ same-length c =
     rows-length _ _ _ _ _ _ (c .before .loop .inv .1) (rw e (s .pre .5))
 
 returns : tie.Need-returns Inv-loop μ-loop
-returns c = rows-all _ _ _ _ _ _ _ (omega arith) (c .before .loop .inv .1)
+returns c =
+    let e : c .before .loop .bit ≡ c .before .before .before .before .args .k = omega arith in
+    (rows-all _ _ _ _ _ _ _ e (c .before .loop .inv .1), rw e at (c .before .loop .inv .2))
 
 pub write-rows-spec : {M : Type 1} → statement M
 write-rows-spec =
@@ -86,10 +82,7 @@ write-rows-spec =
     Inv-loop
     μ-loop
     loop-holds
-    sub-convert-at
     mul-convert-at
-    mul-convert-at-2
-    mul-convert-at-3
     add-convert-at
     convert-at-requires
     add-bit
