@@ -5,14 +5,14 @@ use Prim.Native.Nat.{ℕ, _+_, _-_, _*_, _≤_, _<_}
 use native.Mathlib.Nat.{zero-add}
 use native.Mathlib.Omega.{arith}
 use lib.ListN.{length, take, drop}
+use lib.Seq.{getD-drop}
 use Rattle.buffers.specs.Overwrite.{overwrite}
 use Rattle.buffers.specs.Positions.{at, table, Same, block}
 use Rattle.buffers.specs.PositionLaws.{table-list, front-same}
 use Rattle.buffers.specs.Rows.{rows-none, rows-next, rows-length}
 use Rattle.buffers.specs.Blocks.{length-block, block-at, part-block, put-block}
-use Rattle.conversion.specs.Arrays.{Drawn}
 use Rattle.sampler.specs.Sampler.{sampleShares, sampleWords}
-use Rattle.sampler.specs.Calls.{shares-front}
+use Rattle.sampler.specs.Calls.{shares-local}
 use Rattle.polynomial.specs.Polynomial.{coefficientShares, polynomialShares}
 use Rattle.polynomial.specs.Calls.{length-coefficient}
 
@@ -42,23 +42,16 @@ module _ (n k q : ℕ) (x y words : List ℕ) (t : ℕ) where
   unfolding polynomialShares
   coefficients-length before out e h = rows-length before 0 n _ t out e (omega arith)
 
-  -- the sample of arrays with the shares of the blocks in front, put back
-  pub coefficient-put : 2 < q → (a b out after : List ℕ) → t * n + n ≤ length out → Same n (at a) (at (block n t x)) → Same n (at b) (at (block n t y))
-      → after ≡ overwrite (part n t out) 0 (sampleShares n k q a b (part (sampleWords n k) t words))
+  -- the sample of arrays with the shares of the blocks in front, and of the words from block t on, put back
+  pub coefficient-put : 2 < q → (start : ℕ) → start ≡ t * sampleWords n k → (a b out after : List ℕ) → t * n + n ≤ length out → Same n (at a) (at (block n t x)) → Same n (at b) (at (block n t y))
+      → after ≡ overwrite (part n t out) 0 (sampleShares n k q a b (drop start words))
       → take (t * n) out ++ (after ++ drop (t * n + n - t * n) (drop (t * n) out)) ≡ overwrite out (t * n) (coefficientShares n k q x y words t)
   unfolding coefficientShares
-  coefficient-put large a b out after h f g e =
-      rw (e, part-block (sampleWords n k) t words, shares-front n k q large a (block n t x) b (block n t y) (block (sampleWords n k) t words) f g)
+  coefficient-put large start p a b out after h f g e =
+      let w : Same (sampleWords n k) (at (drop start words)) (at (block (sampleWords n k) t words)) = λ i l. getD-drop start words i 0 ∙ ap (at words) (omega arith) ∙ sym (block-at (sampleWords n k) words t i l) in
+      rw (e, shares-local n k q large a (block n t x) b (block n t y) (drop start words) (block (sampleWords n k) t words) f g w)
       (put-block n t out (coefficientShares n k q x y words t) h (length-coefficient n k q x y words t))
 
 pub coefficients-none : (n k q : ℕ) (x y words out : List ℕ) → out ≡ overwrite out 0 (polynomialShares n k q 0 x y words)
 unfolding polynomialShares
 coefficients-none n k q x y words out = rows-none out 0 n _
-
--- the words of a block
-pub block-drawn : (q c t : ℕ) (words : List ℕ) → Drawn q (t * c) c words → Drawn q 0 c (block c t words)
-block-drawn q c t words d =
-    record {
-      room = omega (arith, length-block c words t (d .room));
-      below = λ i l. rw (zero-add i, block-at c words t i l) (d .below i l);
-    }

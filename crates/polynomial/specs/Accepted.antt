@@ -10,12 +10,10 @@ use lib.ListN.{length}
 use Rattle.buffers.specs.Positions.{block}
 use Rattle.buffers.specs.Blocks.{block-fits, length-block, block-below}
 use Rattle.checks.specs.Search.{firstNotBelow}
-use Rattle.checks.specs.Checks.{Check, bufferChecks, isNone}
-use Rattle.checks.specs.Laws.{Hold, hold-front, hold-rest, hold-both, within-true, none-each-below, each-below-none}
-use Rattle.conversion.specs.Arrays.{Drawn}
+use Rattle.checks.specs.Checks.{isNone}
+use Rattle.checks.specs.Laws.{Hold, within-true, none-each-below, each-below-none}
 use Rattle.sampler.specs.Sampler.{workLength, pairChecks}
-use Rattle.sampler.specs.Secrecy.{Room}
-use Rattle.sampler.specs.Accepted.{Small, small, SharedPair, shared-pair, fit-drawn, fit-room, drawn-fit}
+use Rattle.sampler.specs.Accepted.{Small, small, SharedPair, shared-pair, words-some, fit-first}
 use Rattle.polynomial.specs.Polynomial.{polynomialWords, stringsChecks, polynomialChecks}
 
 -- m pairs of strings of k bits, each in n shares
@@ -29,6 +27,9 @@ pub record SharedStrings (n k q m : ℕ) (x y : List ℕ) : Type 0 where
 -- what each of them says of n, k and q
 pub first-pair : {n k q m : ℕ} {x y : List ℕ} → SharedStrings n k q m x y → SharedPair n k q (block n 0 x) (block n 0 y)
 first-pair {n} {k} {q} {m} {x} {y} S = shared-pair n k q (block n 0 x) (block n 0 y) (S .coefficient 0 (S .some))
+
+pub polynomial-some : {n k q m : ℕ} {x y : List ℕ} → SharedStrings n k q m x y → 0 < polynomialWords n k m
+polynomial-some S = omega (arith, N.mul-le-mul (S .some) (words-some (first-pair S)))
 
 -- the numbers that the code computes are small
 pub record SmallPolynomial (n k m : ℕ) : Type 0 where
@@ -66,22 +67,5 @@ module _ (n k q m : ℕ) (x y : List ℕ) where
       block-narrow : (l : List ℕ) → isNone (firstNotBelow (2 ^ k) l) ≡ true → (t : ℕ) → isNone (firstNotBelow (2 ^ k) (block n t l)) ≡ true
       block-narrow l e t = ap isNone (each-below-none (2 ^ k) (block n t l) 0 (block-below n l (2 ^ k) t (none-each-below (2 ^ k) l 0 e)))
 
-  module _ (words out work : List ℕ) where
-    abbrev Passes : Type 0
-    Passes = Hold (polynomialChecks n k q m x y words (length out) (length work))
-
-    abbrev buffers : List Check
-    buffers = bufferChecks (polynomialWords n k m) q words (m * n) (length out) (workLength n k) (length work)
-
-    pub call-strings : Passes → SharedStrings n k q m x y
-    call-strings h = shared-strings (hold-front (stringsChecks n k q m x y) buffers h)
-
-    pub call-drawn : Passes → Drawn q 0 (polynomialWords n k m) words
-    call-drawn h = fit-drawn (polynomialWords n k m) q words (m * n) (workLength n k) out work (hold-rest (stringsChecks n k q m x y) buffers h)
-
-    pub call-room : Passes → Room (m * n) (workLength n k) out work
-    call-room h = fit-room (polynomialWords n k m) q words (m * n) (workLength n k) out work (hold-rest (stringsChecks n k q m x y) buffers h)
-
-    -- with enough words below q, and room, shared strings are accepted
-    pub call-holds : Hold (stringsChecks n k q m x y) → Drawn q 0 (polynomialWords n k m) words → Room (m * n) (workLength n k) out work → Passes
-    call-holds h d r = hold-both (stringsChecks n k q m x y) buffers h (drawn-fit (polynomialWords n k m) q words (m * n) (workLength n k) out work d r)
+  pub call-strings : (words out work : List ℕ) → Hold (polynomialChecks n k q m x y words (length out) (length work)) → SharedStrings n k q m x y
+  call-strings words out work h = shared-strings (fit-first (stringsChecks n k q m x y) 0 (polynomialWords n k m) q words (m * n) (workLength n k) out work h)

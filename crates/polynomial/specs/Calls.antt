@@ -21,7 +21,7 @@ use Rattle.sampler.specs.Written.{written-out-kept, written-work-kept, written-
 use Rattle.sampler.specs.Opened.{shares-opened, residue-centred}
 use Rattle.polynomial.specs.Polynomial.{coefficientShares, polynomialShares, polynomialWords, stringsChecks, polynomialChecks, sampledPolynomial}
 use Rattle.polynomial.specs.Secrecy.{Polynomial}
-use Rattle.polynomial.specs.Accepted.{SharedStrings, call-strings}
+use Rattle.polynomial.specs.Accepted.{SharedStrings, polynomial-some, shared-strings, call-strings}
 
 pub length-polynomial : (n k q m : ℕ) (x y words : List ℕ) → length (polynomialShares n k q m x y words) ≡ m * n
 unfolding polynomialShares
@@ -112,8 +112,8 @@ module _ (n k q m : ℕ) (x y words out work : List ℕ) where
   pub words-behind : (words′ : List ℕ) → take (polynomialWords n k m) words ≡ take (polynomialWords n k m) words′ → sampledPolynomial n k q m x y words out work ≡ sampledPolynomial n k q m x y words′ out work
   unfolding sampledPolynomial
   words-behind words′ e =
-      written-words (stringsChecks n k q m x y) (polynomialWords n k m) q (m * n) (workLength n k) words words′ (polynomialShares n k q m x y words) (polynomialShares n k q m x y words′) out work e
-      (λ h. polynomial-words (call-strings n k q m x y words out work h) words words′ e)
+      written-words (stringsChecks n k q m x y) 0 (polynomialWords n k m) q (m * n) (workLength n k) words words′ (polynomialShares n k q m x y words) (polynomialShares n k q m x y words′) out work e
+      (λ h. let S = shared-strings n k q m x y h in (polynomial-some S, polynomial-words S words words′ e)) (polynomialWords n k m)
 
   module _ (out′ work′ : List ℕ) where
     -- the answer depends on the lengths of output and work area, not on what they held

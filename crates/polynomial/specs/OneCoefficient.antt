@@ -1,8 +1,8 @@
--- A polynomial of one coefficient is a sample: the whole outcome is the sampler's, for every input.
+-- A polynomial of one coefficient is a sample: the whole outcome is that of the sampler from word 0 on, for every input.
 use mathlib.Core.Path.{_≡_, refl, sym, ap, ap₂, _∙_}
 use mathlib.Core.List.{List, _∷_, _++_}
-use Prim.Native.Nat.{ℕ, _*_}
-use native.Mathlib.Nat.{one-mul, le-refl, le-of-eq}
+use Prim.Native.Nat.{ℕ, _+_, _*_}
+use native.Mathlib.Nat.{zero-add, one-mul, le-refl, le-of-eq}
 use lib.ListN.{length, take}
 use lib.Seq.{take-all, take-take}
 use Rattle.buffers.specs.Positions.{block}
@@ -29,17 +29,18 @@ module _ (n k q : ℕ) (x y words out work : List ℕ) where
 
   -- the checks behind 23
   abbrev others : ℕ → ℕ → List Check
-  others count shares = shareChecks shares k x y ++ bufferChecks count q words shares (length out) (workLength n k) (length work)
+  others count shares = shareChecks shares k x y ++ bufferChecks 0 count q words shares (length out) (workLength n k) (length work)
 
-  verdicts : verdict (polynomialChecks n k q 1 x y words (length out) (length work)) (polynomialWords n k 1) ≡ verdict (sampleChecks n k q x y words (length out) (length work)) (sampleWords n k)
+  verdicts : verdict (polynomialChecks n k q 1 x y words (length out) (length work)) (polynomialWords n k 1) ≡ verdict (sampleChecks n k q x y words 0 (length out) (length work)) (0 + sampleWords n k)
   verdicts =
       same-behind (polynomialWords n k 1) (parameterChecks n k q) (coefficientCount 1 ∷ others (polynomialWords n k 1) (1 * n)) (others (polynomialWords n k 1) (1 * n)) (pass (polynomialWords n k 1) (coefficientCount 1) _ refl)
       ∙ ap₂ (λ (count shares : ℕ). verdict (parameterChecks n k q ++ others count shares) count) (one-mul (sampleWords n k)) (one-mul n)
+      ∙ ap (verdict (sampleChecks n k q x y words 0 (length out) (length work))) (sym (zero-add (sampleWords n k)))
 
-  pub one-coefficient : sampledPolynomial n k q 1 x y words out work ≡ sampled n k q x y words out work
+  pub one-coefficient : sampledPolynomial n k q 1 x y words out work ≡ sampled n k q x y words 0 out work
   unfolding sampledPolynomial
   one-coefficient =
       written-same (polynomialChecks n k q 1 x y words (length out) (length work)) (polynomialWords n k 1) (polynomialShares n k q 1 x y words) (workLength n k) out work
-      (sampleChecks n k q x y words (length out) (length work)) (sampleWords n k) (sampleShares n k q x y words)
+      (sampleChecks n k q x y words 0 (length out) (length work)) (0 + sampleWords n k) (sampleShares n k q x y words)
       (λ h. shares (call-strings n k q 1 x y words out work h)) verdicts
-      ∙ sym (call-written n k q x y words out work)
+      ∙ sym (call-written n k q x y words 0 out work)

@@ -31,7 +31,7 @@ stringsChecks n k q m x y = parameterChecks n k q ++ (coefficientCount m ∷ sha
 
 -- the work area is that of one sample
 abbrev pub polynomialChecks : ℕ → ℕ → ℕ → ℕ → List ℕ → List ℕ → List ℕ → ℕ → ℕ → List Check
-polynomialChecks n k q m x y words room area = stringsChecks n k q m x y ++ bufferChecks (polynomialWords n k m) q words (m * n) room (workLength n k) area
+polynomialChecks n k q m x y words room area = stringsChecks n k q m x y ++ bufferChecks 0 (polynomialWords n k m) q words (m * n) room (workLength n k) area
 
 unfoldable pub sampledPolynomial : ℕ → ℕ → ℕ → ℕ → List ℕ → List ℕ → List ℕ → List ℕ → List ℕ → Outcome ℕ Buffers
 sampledPolynomial n k q m x y words out work =

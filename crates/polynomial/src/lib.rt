@@ -14,7 +14,9 @@ ghost use Rattle.sampler.specs.Sampler.{sampleWords, workLength, both};
 ghost use Rattle.polynomial.specs.Polynomial.{coefficientShares, polynomialShares, polynomialWords, stringsChecks, polynomialChecks, sampledPolynomial};
 ghost use Rattle.polynomial.specs.Secrecy.{PolynomialSecrecy};
 
-// The sample of coefficient t, from the blocks t of x, y and the words to that of the output. Its rows are left in the work area.
+// The sample of coefficient t, from the blocks t of x, y and the words, of which the last begins at `start`, to that of the output. Its rows are
+// left in the work area. Answers the position after the last word.
+// `&words[..]`: the words' address and length are then copied one by one, as they were stored, which is faster than both at once.
 fn write_coefficient(
     n: usize,
     k: usize,
@@ -23,24 +25,23 @@ fn write_coefficient(
     x: &[u16],
     y: &[u16],
     words: &[Word],
+    start: usize,
     out: &mut [Word],
     work: &mut [Word],
-)
-    requires { ⌜ (2 ≤ n) × (n ≤ 8) × (k ≤ 16) × Modulus q × (t * n + n ≤ length (now x)) × (t * n + n ≤ length (now y)) × Drawn q (t * sampleWords n k) (sampleWords n k) (now words) × (t * n + n ≤ length (now out)) × (workLength n k ≤ length (now work)) ⌝ }
-    ensures { λ _. ⌜ (now (out .exit) ≡ overwrite (now (out .entry)) (t * n) (coefficientShares n k q (now (x .entry)) (now (y .entry)) (now (words .entry)) t)) × (drop (workLength n k) (now (work .exit)) ≡ drop (workLength n k) (now (work .entry))) ⌝ }
+) -> usize
+    requires { ⌜ (2 ≤ n) × (n ≤ 8) × (k ≤ 16) × Modulus q × (t * n + n ≤ length (now x)) × (t * n + n ≤ length (now y)) × Drawn q start (sampleWords n k) (now words) × (start ≡ t * sampleWords n k) × (t * n + n ≤ length (now out)) × (workLength n k ≤ length (now work)) ⌝ }
+    ensures { λ r. ⌜ (now (out .exit) ≡ overwrite (now (out .entry)) (t * n) (coefficientShares n k q (now (x .entry)) (now (y .entry)) (now (words .entry)) t)) × (drop (workLength n k) (now (work .exit)) ≡ drop (workLength n k) (now (work .entry))) × (r ≡ start + sampleWords n k) ⌝ }
 {
-    let per = 2 * k * (n * (n - 1));
     let i = t * n;
     let j = i + n;
-    let w = t * per;
-    let v = w + per;
     let mut a = [0u16; 8];
     let mut b = [0u16; 8];
     buffers::copy_eight(&mut a, &x[i..j]);
     buffers::copy_eight(&mut b, &y[i..j]);
-    sampler::write_sample(n, k, q, &a, &b, &words[w..v], &mut out[i..j], work);
+    sampler::write_sample(n, k, q, &a, &b, &words[..], start, &mut out[i..j], work)
 }
 
+// The samples of all coefficients, with the words from the front of the list. Answers the position after the last word.
 fn write_coefficients(
     n: usize,
     k: usize,
@@ -51,13 +52,15 @@ fn write_coefficients(
     words: &[Word],
     out: &mut [Word],
     work: &mut [Word],
-)
+) -> usize
     requires { ⌜ (2 ≤ n) × (n ≤ 8) × (k ≤ 16) × Modulus q × (length (now x) ≡ m * n) × (length (now y) ≡ m * n) × Drawn q 0 (polynomialWords n k m) (now words) × (m * n ≤ length (now out)) × (workLength n k ≤ length (now work)) ⌝ }
-    ensures { λ _. ⌜ (now (out .exit) ≡ overwrite (now (out .entry)) 0 (polynomialShares n k q m (now (x .entry)) (now (y .entry)) (now (words .entry)))) × (drop (workLength n k) (now (work .exit)) ≡ drop (workLength n k) (now (work .entry))) ⌝ }
+    ensures { λ r. ⌜ (now (out .exit) ≡ overwrite (now (out .entry)) 0 (polynomialShares n k q m (now (x .entry)) (now (y .entry)) (now (words .entry)))) × (drop (workLength n k) (now (work .exit)) ≡ drop (workLength n k) (now (work .entry))) × (r ≡ polynomialWords n k m) ⌝ }
 {
+    let mut p = 0;
     for t in 0..m {
-        write_coefficient(n, k, q, t, x, y, words, out, work);
+        p = write_coefficient(n, k, q, t, x, y, words, p, out, work);
     }
+    p
 }
 
 fn check_strings(n: usize, k: usize, q: Word, m: usize, x: &[u16], y: &[u16]) -> Checked
@@ -90,7 +93,7 @@ fn check_polynomial(
     }
     let bits = (m * (2 * k)) as u32;
     let per = (n * (n - 1)) as u32;
-    checks::check_buffers(words, bits, per, q, m * n, room, 2 * k * n, area)
+    checks::check_buffers(words, 0, bits, per, q, m * n, room, 2 * k * n, area)
 }
 
 // Samples m coefficients: n shares modulo q of each, of the weight of its x less the weight of its y. Every list holds coefficient after
@@ -115,7 +118,7 @@ pub fn sample_polynomial(
     if let Checked::Failed(r) = check_polynomial(n, k, q, m, x, y, words, out.len(), work.len()) {
         return Answer::Refused(r);
     }
-    write_coefficients(n, k, q, m, x, y, words, out, work);
+    let end = write_coefficients(n, k, q, m, x, y, words, out, work);
     buffers::zero(work, 2 * k * n);
-    Answer::Done(m * (2 * k * (n * (n - 1))))
+    Answer::Done(end)
 }

@@ -68,7 +68,7 @@ returns-2 : tie.Need-returns-2
 returns-2 c =
     let a = start (c .before) .args in
     c .check-buffers .ensures
-    ∙ ap (λ count. checked (bufferChecks count (a .q) (a .words .now) (a .m * a .n) (a .room) (workLength (a .n) (a .k)) (a .area))) (mul-assoc (a .m) (2 * a .k) (bitWords (a .n)))
+    ∙ ap (λ count. checked (bufferChecks 0 count (a .q) (a .words .now) (a .m * a .n) (a .room) (workLength (a .n) (a .k)) (a .area))) (mul-assoc (a .m) (2 * a .k) (bitWords (a .n)))
     ∙ sym (part-passed _ _ (c .before .before .before .check-strings .ensures) tt _ (c .before .enum-told .given .1))
 
 pub check-polynomial-spec : {M : Type 1} → statement M

@@ -1,17 +1,18 @@
 -- The checks' verdict; a refusal comes before anything is written, and behind the checks all is ready for the samples.
-use mathlib.Core.Path.{ap₂, _∙_}
-use Prim.Native.Nat.{ℕ, _≤_}
+use mathlib.Core.Path.{_∙_}
+use Prim.Native.Nat.{ℕ, _*_}
 use native.Mathlib.Omega.{arith}
 use lib.ListN.{length, length-replicate}
 use borrow.Author.Needs.{needs}
-use Rattle.checks.specs.declared.Answer.the-variants.{Done}
-use Rattle.checks.specs.Answers.{outcome}
 use Rattle.checks.specs.Laws.{Hold, checks-hold, settles-accepted, settles-refused}
 use Rattle.buffers.specs.Laws.{front-again}
+use Rattle.conversion.specs.Arrays.{Drawn}
 use Rattle.sampler.specs.Sampler.{workLength, both}
-use Rattle.sampler.specs.Accepted.{pair-large}
-use Rattle.polynomial.specs.Polynomial.{polynomialWords, polynomialChecks, sampledPolynomial}
-use Rattle.polynomial.specs.Accepted.{SmallPolynomial, small-polynomial, SharedStrings, first-pair, call-strings, call-drawn, call-room}
+use Rattle.sampler.specs.Secrecy.{Room}
+use Rattle.sampler.specs.Accepted.{pair-large, fit-drawn, fit-room}
+use Rattle.sampler.specs.Written.{answered}
+use Rattle.polynomial.specs.Polynomial.{polynomialWords, stringsChecks, polynomialChecks, sampledPolynomial}
+use Rattle.polynomial.specs.Accepted.{SmallPolynomial, small-polynomial, SharedStrings, first-pair, call-strings}
 use Rattle.polynomial.specs.SecrecyProof.{secrecy}
 use Rattle.polynomial.proofs.sample_polynomial.Statement.{statement}
 use Rattle.polynomial.proofs.sample_polynomial.Tie as tie
@@ -28,6 +29,12 @@ holds c = checks-hold _ _ (c .before .before .check-polynomial .ensures) (c .enu
 
 strings : (c : tie.After-enum-told) → let a = start c .args in SharedStrings (a .n) (a .k) (a .q) (a .m) (a .x .now) (a .y .now)
 strings c = let a = start c .args in call-strings _ _ _ _ _ _ _ (a .out .now) (a .work .now) (holds c)
+
+drawn : (c : tie.After-enum-told) → let a = start c .args in Drawn (a .q) 0 (polynomialWords (a .n) (a .k) (a .m)) (a .words .now)
+drawn c = let a = start c .args in fit-drawn (stringsChecks (a .n) (a .k) (a .q) (a .m) (a .x .now) (a .y .now)) _ _ _ _ _ _ (a .out .now) (a .work .now) (holds c)
+
+room : (c : tie.After-enum-told) → let a = start c .args in Room (a .m * a .n) (workLength (a .n) (a .k)) (a .out .now) (a .work .now)
+room c = let a = start c .args in fit-room (stringsChecks (a .n) (a .k) (a .q) (a .m) (a .x .now) (a .y .now)) 0 (polynomialWords (a .n) (a .k) (a .m)) (a .q) (a .words .now) _ _ (a .out .now) (a .work .now) (holds c)
 
 sizes : (c : tie.After-enum-told) → let a = start c .args in SmallPolynomial (a .n) (a .k) (a .m)
 sizes c = small-polynomial (strings c)
@@ -47,18 +54,16 @@ enum-told c = search needs
 
 write-coefficients-requires : tie.Need-write-coefficients-requires
 write-coefficients-requires c κs =
-    let a = start (c .before .before) .args in
-    let h = holds (c .before .before) in
     let S = strings (c .before .before) in
     let p = first-pair S in
-    let r = call-room _ _ _ _ _ _ _ (a .out .now) (a .work .now) h in (
+    let r = room (c .before .before) in (
       p .two,
       p .eight,
       p .sixteen,
       record { large = pair-large p; small = omega arith },
       S .x-count,
       S .y-count,
-      call-drawn _ _ _ _ _ _ _ (a .out .now) (a .work .now) h,
+      drawn (c .before .before),
       r .0,
       r .1,
     )
@@ -72,24 +77,8 @@ mul-zero-2 c = omega (arith, sizes (c .before .before .before .before .before .b
 zero-requires : tie.Need-zero-requires
 zero-requires c κs =
     let t = c .before .before .before .before .before .before .before .before in
-    let a = start t .args in
-    let r : workLength (a .n) (a .k) ≤ length (a .work .now) = call-room _ _ _ _ _ _ _ (a .out .now) (a .work .now) (holds t) .1 in
+    let r = room t .1 in
     search needs
-
-mul-t12 : tie.Need-mul-t12
-mul-t12 c = omega (arith, sizes (passed c) .sample .bits)
-
-sub-t13 : tie.Need-sub-t13
-sub-t13 c = omega (arith, first-pair (strings (passed c)) .two)
-
-mul-t21 : tie.Need-mul-t21
-mul-t21 c = omega (arith, sizes (passed c) .sample .per)
-
-mul-t22 : tie.Need-mul-t22
-mul-t22 c = omega (arith, sizes (passed c) .sample .words)
-
-mul-t23 : tie.Need-mul-t23
-mul-t23 c = omega (arith, sizes (passed c) .words)
 
 same-length : tie.Need-same-length
 same-length c = search needs
@@ -106,7 +95,7 @@ returns-2 c =
     let zeros = workLength (a .n) (a .k) in
     let z = c .before .before .zero .ensures ∙ front-again (a .work .now) _ _ zeros (length-replicate {A = ℕ} zeros 0) (e .1) in
     let count = polynomialWords (a .n) (a .k) (a .m) in (
-      ap₂ (λ o w. outcome (Done count) (both o w)) (e .0) z ∙ settles-accepted _ _ (d .before .before .check-polynomial .ensures) count (both (a .out .now) (a .work .now)) _ (d .enum-told .given .1),
+      answered (e .2) (e .0) z ∙ settles-accepted _ _ (d .before .before .check-polynomial .ensures) count (both (a .out .now) (a .work .now)) _ (d .enum-told .given .1),
       secrecy _ _ _ _,
     )
 
@@ -122,11 +111,6 @@ sample-polynomial-spec =
     mul-zero
     mul-zero-2
     zero-requires
-    mul-t12
-    sub-t13
-    mul-t21
-    mul-t22
-    mul-t23
     same-length
     same-length-2
     returns-2)

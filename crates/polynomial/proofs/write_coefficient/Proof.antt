@@ -2,35 +2,15 @@
 use native.Mathlib.Omega.{arith}
 use borrow.Author.Needs.{needs}
 use Rattle.buffers.specs.Blocks.{length-block, part-block}
-use Rattle.sampler.specs.Sampler.{sampleWords}
-use Rattle.sampler.specs.Accepted.{small}
-use Rattle.polynomial.proofs.Steps.{block-gathered, block-drawn, coefficient-put}
+use Rattle.polynomial.proofs.Steps.{block-gathered, coefficient-put}
 use Rattle.polynomial.proofs.write_coefficient.Statement.{statement}
 use Rattle.polynomial.proofs.write_coefficient.Tie as tie
-
-mul-per : tie.Need-mul-per
-mul-per c = search needs
-
-sub-per : tie.Need-sub-per
-sub-per c = search needs
-
-mul-per-2 : tie.Need-mul-per-2
-mul-per-2 c = let s = c .before .before .before .before .before in omega (arith, small _ _ (s .pre .1) (s .pre .2) .per)
-
-mul-per-3 : tie.Need-mul-per-3
-mul-per-3 c = search needs
 
 mul-i : tie.Need-mul-i
 mul-i c = search needs
 
 add-j : tie.Need-add-j
 add-j c = search needs
-
-mul-w : tie.Need-mul-w
-mul-w c = search needs
-
-add-v : tie.Need-add-v
-add-v c = search needs
 
 slice-aggregate-copy-eight : tie.Need-slice-aggregate-copy-eight
 slice-aggregate-copy-eight c = search needs
@@ -80,31 +60,18 @@ part-write-sample-start c = search needs
 part-write-sample-end : tie.Need-part-write-sample-end
 part-write-sample-end c = search needs
 
-mul-write-sample-2 : tie.Need-mul-write-sample-2
-mul-write-sample-2 c = search needs
-
-sub-write-sample-2 : tie.Need-sub-write-sample-2
-sub-write-sample-2 c = search needs
-
-part-write-sample-start-2 : tie.Need-part-write-sample-start-2
-part-write-sample-start-2 c = search needs
-
-part-write-sample-end-2 : tie.Need-part-write-sample-end-2
-part-write-sample-end-2 c = search needs
-
 write-sample-requires : tie.Need-write-sample-requires
 write-sample-requires c κs =
-    let s = c .before .before .before .before .before .before .before .before .before .before .before .before .before .before .before .before .before .before in
+    let s = c .before .before .before .before .before .before .before .before .before .before .before .before .before .before .before .before .before in
     let a = s .args in
-    let W = sampleWords (a .n) (a .k) in
-    rw (part-block W (a .t) (a .words .now), part-block (a .n) (a .t) (a .out .now)) (
+    rw (part-block (a .n) (a .t) (a .out .now)) (
       s .pre .0,
       s .pre .1,
       s .pre .2,
       s .pre .3,
-      block-drawn _ _ _ _ (s .pre .6),
-      omega (arith, length-block (a .n) (a .out .now) (a .t) (s .pre .7)),
-      s .pre .8,
+      s .pre .6,
+      omega (arith, length-block (a .n) (a .out .now) (a .t) (s .pre .8)),
+      s .pre .9,
     )
 
 same-length : tie.Need-same-length
@@ -115,25 +82,19 @@ same-length-2 c = search needs
 
 returns : tie.Need-returns
 returns c =
-    let s = c .before .before .before .before .before .before .before .before .before .before .before .before .before .before .before .before .before .before .before .before .before .before .before in
+    let s = c .before .before .before .before .before .before .before .before .before .before .before .before .before .before .before .before .before .before .before .before .before .before in
     let a = s .args in
     let e = c .before .before .before .before .write-sample .ensures in
-    let x = block-gathered (a .n) (a .t) (a .x .now) _ _ (s .pre .1) (s .pre .4) (c .before .before .before .before .before .before .before .before .before .before .before .before .before .before .before .copy-eight .ensures) in
-    let y = block-gathered (a .n) (a .t) (a .y .now) _ _ (s .pre .1) (s .pre .5) (c .before .before .before .before .before .before .before .before .before .before .before .copy-eight2 .ensures) in
-    (coefficient-put _ _ _ _ _ _ _ (s .pre .3 .large) _ _ _ _ (s .pre .7) x y (e .0), e .1)
+    let x = block-gathered (a .n) (a .t) (a .x .now) _ _ (s .pre .1) (s .pre .4) (c .before .before .before .before .before .before .before .before .before .before .before .before .before .before .copy-eight .ensures) in
+    let y = block-gathered (a .n) (a .t) (a .y .now) _ _ (s .pre .1) (s .pre .5) (c .before .before .before .before .before .before .before .before .before .before .copy-eight2 .ensures) in
+    (coefficient-put _ _ _ _ _ _ _ (s .pre .3 .large) _ (s .pre .7) _ _ _ _ (s .pre .8) x y (e .0), e .1, e .2)
 
 pub write-coefficient-spec : {M : Type 1} → statement M
 write-coefficient-spec =
     tie.close
     (tie.spec
-    mul-per
-    sub-per
-    mul-per-2
-    mul-per-3
     mul-i
     add-j
-    mul-w
-    add-v
     slice-aggregate-copy-eight
     mul-copy-eight
     sub-copy-eight
@@ -150,10 +111,6 @@ write-coefficient-spec =
     sub-write-sample
     part-write-sample-start
     part-write-sample-end
-    mul-write-sample-2
-    sub-write-sample-2
-    part-write-sample-start-2
-    part-write-sample-end-2
     write-sample-requires
     same-length
     same-length-2
