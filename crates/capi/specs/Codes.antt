@@ -48,13 +48,13 @@ module _ (code position : ℕ) where
   unfolding parameterSet
   parameter-set-code number = numbered _ (setChecks number) refl
 
-  pub convert-bit-code : (n q : ℕ) (bits words out : List ℕ) → converted n q bits words out .answer ≡ refused code position → 0 < code
+  pub convert-bit-code : (n q : ℕ) (bits words : List ℕ) (start : ℕ) (out : List ℕ) → converted n q bits words start out .answer ≡ refused code position → 0 < code
   unfolding converted
-  convert-bit-code n q bits words out e = numbered _ (bitChecks n q bits words (length out)) refl (sym (settled-answer _ _ _) ∙ e)
+  convert-bit-code n q bits words start out e = numbered _ (bitChecks n q bits words start (length out)) refl (sym (settled-answer _ _ _) ∙ e)
 
-  pub sample-code : (n k q : ℕ) (x y words out work : List ℕ) → sampled n k q x y words out work .answer ≡ refused code position → 0 < code
+  pub sample-code : (n k q : ℕ) (x y words : List ℕ) (start : ℕ) (out work : List ℕ) → sampled n k q x y words start out work .answer ≡ refused code position → 0 < code
   unfolding sampled
-  sample-code n k q x y words out work e = numbered _ (sampleChecks n k q x y words (length out) (length work)) refl (sym (settled-answer _ _ _) ∙ e)
+  sample-code n k q x y words start out work e = numbered _ (sampleChecks n k q x y words start (length out) (length work)) refl (sym (settled-answer _ _ _) ∙ e)
 
   pub sample-polynomial-code : (n k q m : ℕ) (x y words out work : List ℕ) → sampledPolynomial n k q m x y words out work .answer ≡ refused code position → 0 < code
   unfolding sampledPolynomial

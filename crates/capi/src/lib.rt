@@ -8,8 +8,6 @@ use masking::SignedAnswer;
 use masking::StringAnswer;
 use residue::Word;
 ghost use mathlib.Core.Path.{_≡_};
-ghost use Prim.Native.Nat.{_≤_};
-ghost use lib.ListN.{length, take};
 ghost use Rattle.checks.specs.Answers.{answerReading};
 ghost use Rattle.masking.specs.Answers.{signedReading};
 ghost use Rattle.masking.specs.Sharing.{masked, openedString, openedResidue};
@@ -188,25 +186,16 @@ pub extern "C" fn tp_convert_bit(
     q: Word,
     bits: &[u16],
     words: &[Word],
+    start: usize,
     out: &mut [Word],
 ) -> TpAnswer
-    ensures { λ r. ⌜ returned r (now (out .exit)) ≡ answered (converted n q (now (bits .entry)) (now (words .entry)) (now (out .entry))) ⌝ }
+    ensures { λ r. ⌜ returned r (now (out .exit)) ≡ answered (converted n q (now (bits .entry)) (now (words .entry)) start (now (out .entry))) ⌝ }
     ensures secrecy { λ _. ⌜ BitSecrecy n q ⌝ }
 {
-    answer(conversion::convert_bit(n, q, bits, words, out))
+    answer(conversion::convert_bit(n, q, bits, words, start, out))
 }
 
-// How many words are lent to the sampler: all that it may take. A length that was worked out is passed on faster than one that is copied
-// together with its address.
-fn words_lent(words: &[Word]) -> usize
-    ensures { λ r. ⌜ (r ≤ length (now (words .entry))) × (take 1792 (take r (now (words .entry))) ≡ take 1792 (now (words .entry))) ⌝ }
-{
-    if sampler::MOST_WORDS < words.len() {
-        return sampler::MOST_WORDS;
-    }
-    words.len()
-}
-
+// `&words[..]`: the words' address and length are then copied one by one, as they were stored, which is faster than both at once.
 #[no_mangle]
 pub extern "C" fn tp_sample(
     n: usize,
@@ -215,14 +204,14 @@ pub extern "C" fn tp_sample(
     x: &[u16],
     y: &[u16],
     words: &[Word],
+    start: usize,
     out: &mut [Word],
     work: &mut [Word],
 ) -> TpAnswer
-    ensures { λ r. ⌜ returned r (both (now (out .exit)) (now (work .exit))) ≡ answered (sampled n k q (now (x .entry)) (now (y .entry)) (now (words .entry)) (now (out .entry)) (now (work .entry))) ⌝ }
+    ensures { λ r. ⌜ returned r (both (now (out .exit)) (now (work .exit))) ≡ answered (sampled n k q (now (x .entry)) (now (y .entry)) (now (words .entry)) start (now (out .entry)) (now (work .entry))) ⌝ }
     ensures secrecy { λ _. ⌜ Secrecy n k q ⌝ }
 {
-    let lent = words_lent(words);
-    answer(sampler::sample(n, k, q, x, y, &words[..lent], out, work))
+    answer(sampler::sample(n, k, q, x, y, &words[..], start, out, work))
 }
 
 #[no_mangle]

@@ -31,7 +31,7 @@ pub data Result : Type 0 where
 
 -- by the definitions
 abbrev pub resultOf : Call → Result
-resultOf (sample n k q x y words out work) = buffers (sampled n k q x y words out work)
+resultOf (sample n k q x y words out work) = buffers (sampled n k q x y words 0 out work)
 resultOf (mask n k value masks out) = output (masked n k value masks out)
 resultOf (openResidue n q shares) = residue (openedResidue n q shares)
 resultOf (centre q r) = integer (centred q r)

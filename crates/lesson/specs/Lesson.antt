@@ -13,7 +13,7 @@ use Rattle.lesson_file.specs.declared.Layout.{Layout}
 
 -- 6 to 9: 4 and 5 hold, since the lists have n words, and 10 and 11, since the buffers have room for every sample
 abbrev pub otherChecks : Sample → List Check
-otherChecks s = narrow 6 (s .k) (s .x) ∷ narrow 7 (s .k) (s .y) ∷ wordChecks (sampleWords (s .n) (s .k)) (s .q) (s .words)
+otherChecks s = narrow 6 (s .k) (s .x) ∷ narrow 7 (s .k) (s .y) ∷ wordChecks 0 (sampleWords (s .n) (s .k)) (s .q) (s .words)
 
 -- the record concerned: XB for 6, YB for 7, and RW for 8 and 9
 abbrev pub recordOf : Layout → ℕ → ℕ

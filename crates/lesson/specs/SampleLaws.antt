@@ -2,6 +2,7 @@
 use mathlib.Core.Path.{_≡_, ap}
 use mathlib.Core.List.{List, [], _∷_}
 use Prim.Native.Nat.{ℕ, _+_, _≤_}
+use native.Mathlib.Nat.{zero-add}
 use native.Mathlib.Omega.{arith}
 use borrow.Author.Tests.{leb-true, eq-eqb}
 use lib.ListN.{length, take}
@@ -39,7 +40,7 @@ module _ (file : List ℕ) (l : Layout) (w : WholeSample file l) (g : Hold (fitC
   -- RW has the words that the sample takes
   pub sample-words : sampleWords (l .parameters .n) (l .parameters .k) ≤ l .count
   unfolding sampleOf
-  sample-words = rw (← length-words file (l .lists .next .at + 4) (l .count)) (leb-true _ _ (others .1 .1 .0))
+  sample-words = rw (← length-words file (l .lists .next .at + 4) (l .count), ← zero-add (sampleWords (s .n) (s .k))) (leb-true _ _ (others .1 .1 .0))
 
   -- its shares, in front of the output
   shares-taken : (out : List ℕ) → take (l .parameters .n) (overwrite out 0 (sharesOf s)) ≡ sharesOf s

@@ -1,7 +1,8 @@
 -- What the sampler's outcome says of a sample of a lesson file.
 use mathlib.Core.Path.{_≡_, sym, ap, _∙_}
 use mathlib.Core.List.{List}
-use Prim.Native.Nat.{ℕ}
+use Prim.Native.Nat.{ℕ, _+_}
+use native.Mathlib.Nat.{zero-add}
 use native.Mathlib.Omega.{arith}
 use borrow.Author.Tests.{le-leb, eq-eqb}
 use lib.ListN.{length}
@@ -26,12 +27,12 @@ module _ (file : List ℕ) (l : Layout) (w : WholeSample file l) (b : SampleBuff
   abbrev s : Sample
   s = sampleOf file l
 
-  -- how many words it takes
-  abbrev taken : ℕ
-  taken = sampleWords (s .n) (s .k)
+  -- the position after its last word
+  abbrev end : ℕ
+  end = 0 + sampleWords (s .n) (s .k)
 
   abbrev checks : List Check
-  checks = sampleChecks (s .n) (s .k) (s .q) (s .x) (s .y) (s .words) (length (b .out)) (length (b .work))
+  checks = sampleChecks (s .n) (s .k) (s .q) (s .x) (s .y) (s .words) 0 (length (b .out)) (length (b .work))
 
   room : Hold (roomChecks (s .n) (length (b .out)) (workLength (s .n) (s .k)) (length (b .work)))
   unfolding sampleOf
@@ -40,23 +41,23 @@ module _ (file : List ℕ) (l : Layout) (w : WholeSample file l) (b : SampleBuff
       (le-leb (s .n) (length (b .out)) (omega (arith, eight, r .share-room)), (le-leb (workLength (s .n) (s .k)) (length (b .work)) (omega (arith, small (s .n) (s .k) eight (within-true 1 16 (s .k) (w .parameters .1 .0) .1) .rows, r .row-room)), tt))
 
   -- the sampler's first checks hold, and so do its last
-  others-decide : verdict checks taken ≡ verdict (otherChecks s) taken
+  others-decide : verdict checks end ≡ verdict (otherChecks s) end
   unfolding sampleOf
   others-decide =
-      passes-part taken (parameterChecks (s .n) (s .k) (s .q)) _ (w .parameters)
-      ∙ pass taken (exactly 4 (s .n) (s .x)) _ (eq-eqb _ _ (length-words file _ _))
-      ∙ pass taken (exactly 5 (s .n) (s .y)) _ (eq-eqb _ _ (length-words file _ _))
-      ∙ passes-behind taken (otherChecks s) (roomChecks (s .n) (length (b .out)) (workLength (s .n) (s .k)) (length (b .work))) room
+      passes-part end (parameterChecks (s .n) (s .k) (s .q)) _ (w .parameters)
+      ∙ pass end (exactly 4 (s .n) (s .x)) _ (eq-eqb _ _ (length-words file _ _))
+      ∙ pass end (exactly 5 (s .n) (s .y)) _ (eq-eqb _ _ (length-words file _ _))
+      ∙ passes-behind end (otherChecks s) (roomChecks (s .n) (length (b .out)) (workLength (s .n) (s .k)) (length (b .work))) room
 
   -- what the code learns from the sampler's answer
-  module _ (words out work : List ℕ) (m : words ≡ overwrite (b .words) 0 (s .words)) (a : Answer) (e : outcome a (both out work) ≡ sampled (s .n) (s .k) (s .q) (s .x) (s .y) (s .words) (b .out) (b .work)) where
+  module _ (words out work : List ℕ) (m : words ≡ overwrite (b .words) 0 (s .words)) (a : Answer) (e : outcome a (both out work) ≡ sampled (s .n) (s .k) (s .q) (s .x) (s .y) (s .words) 0 (b .out) (b .work)) where
     pub judged-done : (used : ℕ) → a ≡ Done used → record { answer = accepted record { parameters = l .parameters; used = used; next = l .next }; buffers = sampleBuffers words out work } ≡ sampleJudged file b l
     unfolding sampled fitChecks sampleOf
     judged-done used i =
         let d = settled-done _ _ _ (sym (ap (λ a. outcome a (both out work)) i) ∙ e) in
         let v = sym others-decide ∙ d .0 in
-        let h = located-holds (recordOf l) (otherChecks s) (accepted-holds taken used (otherChecks s) v) in
-        let t = accepted-answer taken used (otherChecks s) v in
+        let h = located-holds (recordOf l) (otherChecks s) (accepted-holds end used (otherChecks s) v) in
+        let t = accepted-answer end used (otherChecks s) v ∙ zero-add (sampleWords (s .n) (s .k)) in
         rw (m, t)
         (ap (λ c. record { answer = accepted (sampledAt l); buffers = sampleBuffers (overwrite (b .words) 0 (s .words)) (c .out) (c .work) }) (d .1)
         ∙ sym (settled-accepted (sampledAt l) (fitChecks file l) (loaded s b) (sampledIn s b) h))
@@ -65,7 +66,7 @@ module _ (file : List ℕ) (l : Layout) (w : WholeSample file l) (b : SampleBuff
     unfolding sampled fitChecks sampleOf
     judged-refused f position i j =
         let d = settled-refused _ _ _ (sym (ap (λ a. outcome a (both out work)) i) ∙ e) in
-        let v = located-refuses (recordOf l) taken (sampledAt l) (f .code) (f .position) (otherChecks s) (sym others-decide ∙ d .0) in
+        let v = located-refuses (recordOf l) end (sampledAt l) (f .code) (f .position) (otherChecks s) (sym others-decide ∙ d .0) in
         rw (m, j)
         (ap (λ c. record { answer = refused (f .code) (recordOf l (f .code)); buffers = sampleBuffers (overwrite (b .words) 0 (s .words)) (c .out) (c .work) }) (d .1)
         ∙ ap (λ u. settled u (loaded s b) (sampledIn s b)) (sym v))

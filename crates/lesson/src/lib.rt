@@ -54,7 +54,8 @@ fn record_of(layout: Layout, code: u32) -> usize
     layout.lists.next.at
 }
 
-// The sample whose records lie there. RW's words, and no others, are lent to the sampler.
+// The sample whose records lie there. RW's words, and no others, are lent to the sampler, which starts at the first of them: its end position is
+// the number of the words that it used.
 fn make_sample(
     file: &[u8],
     layout: Layout,
@@ -81,6 +82,7 @@ fn make_sample(
         &x[..n],
         &y[..n],
         &words[..count],
+        0,
         out,
         work,
     ) {

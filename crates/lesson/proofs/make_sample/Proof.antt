@@ -33,14 +33,14 @@ fits s = omega (arith, s .pre .0 .limit, s .pre .1 .word-room)
 abbrev sample : tie.Start → Sample
 sample s = sampleOf (s .args .file .now) (s .args .layout)
 
-same-lists : (n k q : ℕ) {x x′ y y′ w w′ : List ℕ} (out work : List ℕ) → x ≡ x′ → y ≡ y′ → w ≡ w′ → sampled n k q x y w out work ≡ sampled n k q x′ y′ w′ out work
+same-lists : (n k q : ℕ) {x x′ y y′ w w′ : List ℕ} (out work : List ℕ) → x ≡ x′ → y ≡ y′ → w ≡ w′ → sampled n k q x y w 0 out work ≡ sampled n k q x′ y′ w′ 0 out work
 same-lists n k q out work a b c = rw (a, b, c)
 
 abbrev start : tie.After-sample → tie.Start
 start c = c .before .before .before .before .before .before .before .before .before .before .before .before .before .before .before .before .before .before .before .before .before .before .before .before .before
 
 -- the sampler was lent what the file says
-sampler : (c : tie.After-sample) → outcome (c .sample .result) (both (c .sample .last .1 .1 .1 .1 .1 .1 .0) (c .sample .last .1 .1 .1 .1 .1 .1 .1 .0)) ≡ sampled (sample (start c) .n) (sample (start c) .k) (sample (start c) .q) (sample (start c) .x) (sample (start c) .y) (sample (start c) .words) (start c .args .out .now) (start c .args .work .now)
+sampler : (c : tie.After-sample) → outcome (c .sample .result) (both (c .sample .last .1 .1 .1 .1 .1 .1 .1 .0) (c .sample .last .1 .1 .1 .1 .1 .1 .1 .1 .0)) ≡ sampled (sample (start c) .n) (sample (start c) .k) (sample (start c) .q) (sample (start c) .x) (sample (start c) .y) (sample (start c) .words) 0 (start c .args .out .now) (start c .args .work .now)
 unfolding sampleOf
 sampler c = c .sample .ensures .0 ∙ same-lists _ _ _ _ _ (x (c .before .before .before .before .before .before .before .before .before .before .before .before .before .before .before .before)) (y (c .before .before .before .before .before .before .before .before .before .before .before .before)) (words (c .before .before .before .before .before .before .before .before))
 
