@@ -8,7 +8,8 @@
  * and that one which is not const may be written and overlaps no other list of the call.
  *
  * n is the number of shares, 2 to 8; k the number of bits in a string, 1 to 16; q the modulus; m the number of a polynomial's coefficients, 1
- * to 256. A random word is below q, drawn evenly and apart from all others, and used once. The library makes no random numbers. */
+ * to 256; start the position in the word list of the first word that a call takes. A random word is below q, drawn evenly and apart from all
+ * others, and used once. The library makes no random numbers. */
 #ifndef TINPLATEAU_H
 #define TINPLATEAU_H
 
@@ -16,8 +17,8 @@
 #include <stdint.h>
 
 /* MINOR rises with a new call, MAJOR where a call or the meaning of an answer changes. */
-#define TINPLATEAU_VERSION_MAJOR 1
-#define TINPLATEAU_VERSION_MINOR 1
+#define TINPLATEAU_VERSION_MAJOR 2
+#define TINPLATEAU_VERSION_MINOR 0
 
 /* Has the compiler warn where an answer is dropped; gcc does so in C in spite of a cast to void. Defined as nothing (-DTP_NODISCARD=) it is
  * off. */
@@ -87,7 +88,8 @@ enum tp_code {
     TP_COEFFICIENT_COUNT = 23 /* m is not from 1 to 256 */
 };
 
-/* Code 0: accepted, and the value is a count. Else a number of enum tp_code, and the value is the position. */
+/* Code 0: accepted, and the value is a count, or where a call has a start the position behind its last word. Else a number of enum tp_code, and
+ * the value is the position of what is unfit. */
 typedef struct tp_answer {
     uint32_t code;
     size_t value;
@@ -195,22 +197,25 @@ tp_signed tp_weight_difference(size_t k, tp_string x, tp_string y);
 TP_NODISCARD
 tp_parameters tp_parameter_set(size_t number);
 
-/* Converts a shared bit to n shares modulo q, with the first n(n - 1) words. Answers n(n - 1). With words drawn so, no n - 1 of the
- * shares tell anything of the bit.
- * Refuses 1 (n); 3 (q below 3); 4 (not n shares); 6 (a share that is not 0 or 1, with its position); 8 (fewer than n(n - 1) words); 9 (one
- * of these not below q, with its position); 10 (fewer than n output words). Words and output words past those are neither read nor written. */
+/* Converts a shared bit to n shares modulo q, with the n(n - 1) words from start on. Answers the position behind them, start + n(n - 1),
+ * where the next call may start. With words drawn so, no n - 1 of the shares tell anything of the bit.
+ * Refuses 1 (n); 3 (q below 3); 4 (not n shares); 6 (a share that is not 0 or 1, with its position); 8 (fewer than start + n(n - 1) words,
+ * for any start: the sum does not overflow); 9 (one of those from start on not below q, with its position from the front of the list); 10
+ * (fewer than n output words). Words before start, and words and output words past those, are neither read nor written. */
 TP_NODISCARD
-tp_answer tp_convert_bit(size_t n, uint16_t q, const uint16_t *bits, size_t bits_len, const uint16_t *words, size_t words_len, uint16_t *out,
-                         size_t out_len);
+tp_answer tp_convert_bit(size_t n, uint16_t q, const uint16_t *bits, size_t bits_len, const uint16_t *words, size_t words_len, size_t start,
+                         uint16_t *out, size_t out_len);
 
-/* Samples: n shares modulo q of the weight of x less the weight of y, with the first W = 2kn(n - 1) words. Answers W. With words drawn so,
- * no n - 1 of the shares tell anything of x and y. The first 2kn words of the work area are 0 afterwards.
+/* Samples: n shares modulo q of the weight of x less the weight of y, with the W = 2kn(n - 1) words from start on. Answers the position behind
+ * them, start + W, where the next call may start. With words drawn so, no n - 1 of the shares tell anything of x and y. The first 2kn words of
+ * the work area are 0 afterwards.
  * Refuses 1 (n); 2 (k); 3 (q below 2k + 1); 4 (not n shares of x); 5 (of y); 6 (a share of x of more than k bits, with its position); 7 (of y);
- * 8 (fewer than W words); 9 (one of these not below q, with its position); 10 (fewer than n output words); 11 (fewer than 2kn words in the
- * work area). Words, output words and work words past those are neither read nor written. */
+ * 8 (fewer than start + W words, for any start: the sum does not overflow); 9 (one of those from start on not below q, with its position from
+ * the front of the list); 10 (fewer than n output words); 11 (fewer than 2kn words in the work area). Words before start, and words, output
+ * words and work words past those, are neither read nor written. */
 TP_NODISCARD
 tp_answer tp_sample(size_t n, size_t k, uint16_t q, const uint16_t *x, size_t x_len, const uint16_t *y, size_t y_len, const uint16_t *words,
-                    size_t words_len, uint16_t *out, size_t out_len, uint16_t *work, size_t work_len);
+                    size_t words_len, size_t start, uint16_t *out, size_t out_len, uint16_t *work, size_t work_len);
 
 /* Samples a polynomial: m coefficients, each as tp_sample makes it. Lists hold coefficient after coefficient: coefficient t, from 0, has the n
  * shares from position tn on in x, y and output, and takes the W = 2kn(n - 1) words from position tW on. Answers mW. With words drawn so, any

@@ -27,13 +27,18 @@ fn built() -> Option<PathBuf> {
     Some(folder).filter(|folder| folder.join(NAME).is_file())
 }
 
-/// Where a library that has these calls is installed.
+/// Where a library that has these calls is installed: of this MAJOR, and not older.
 fn installed() -> Option<PathBuf> {
     let command = env::var_os("PKG_CONFIG").unwrap_or_else(|| "pkg-config".into());
-    let library = format!("tinplateau >= {}.{}", env!("CARGO_PKG_VERSION_MAJOR"), env!("CARGO_PKG_VERSION_MINOR"));
-    let output = Command::new(command).args(["--variable=libdir", &library]).output().ok()?;
-    let folder = PathBuf::from(String::from_utf8(output.stdout).ok()?.trim());
-    Some(folder).filter(|folder| output.status.success() && folder.join(NAME).is_file())
+    let asked = |what: &str, versions: String| {
+        let output = Command::new(&command).args([what, &format!("tinplateau {versions}")]).output().ok()?;
+        Some(output.stdout).filter(|_| output.status.success())
+    };
+    let major: u32 = env!("CARGO_PKG_VERSION_MAJOR").parse().ok()?;
+    asked("--exists", format!("< {}", major + 1))?;
+    let folder = asked("--variable=libdir", format!(">= {major}.{}", env!("CARGO_PKG_VERSION_MINOR")))?;
+    let folder = PathBuf::from(String::from_utf8(folder).ok()?.trim());
+    Some(folder).filter(|folder| folder.join(NAME).is_file())
 }
 
 fn main() {

@@ -7,13 +7,13 @@
 
 use std::mem::{align_of, size_of, transmute};
 
-/// The answer of a call that answers a count.
+/// The answer of a call that answers a count, or the position behind its last word.
 #[repr(C)]
 #[derive(Clone, Copy, Debug, PartialEq, Eq)]
 pub struct tp_answer {
     /// 0, or the number of a refusal.
     pub code: u32,
-    /// The count, or the position in a refusal.
+    /// What is answered, or the position in a refusal.
     pub value: usize,
 }
 
@@ -135,6 +135,7 @@ extern "C" {
         bits_len: usize,
         words: *const u16,
         words_len: usize,
+        start: usize,
         out: *mut u16,
         out_len: usize,
     ) -> tp_answer;
@@ -150,6 +151,7 @@ extern "C" {
         y_len: usize,
         words: *const u16,
         words_len: usize,
+        start: usize,
         out: *mut u16,
         out_len: usize,
         work: *mut u16,

@@ -52,15 +52,15 @@ pub struct Parameters {
 }
 
 /// What was answered, or the refusal where the code is not 0.
-fn judged<T>(code: u32, position: usize, answered: T) -> Result<T, Refusal> {
+fn judged<T>(code: u32, position: usize, value: T) -> Result<T, Refusal> {
     if code == 0 {
-        return Ok(answered);
+        return Ok(value);
     }
     let reason = Reason::from_number(code).unwrap_or_else(|| panic!("the library refuses with {code}, which is no number of its header"));
     Err(Refusal { reason, position })
 }
 
-fn counted(answer: ffi::tp_answer) -> Result<usize, Refusal> {
+fn answered(answer: ffi::tp_answer) -> Result<usize, Refusal> {
     judged(answer.code, answer.value, answer.value)
 }
 
@@ -79,7 +79,7 @@ fn bits(string: OpenedString) -> ffi::tp_string {
 /// Refuses, in this order: `ShareCount`; `StringLength`; `ValueWidth`; `MaskCount`; `MaskWidth`, with the mask's position; `OutputRoom`, for
 /// fewer than n output words. Output words past n keep their content.
 pub fn mask(n: usize, k: usize, value: OpenedString, masks: &[u16], out: &mut [u16]) -> Result<usize, Refusal> {
-    counted(unsafe { ffi::tp_mask(n, k, bits(value), masks.as_ptr(), masks.len(), out.as_mut_ptr(), out.len()) })
+    answered(unsafe { ffi::tp_mask(n, k, bits(value), masks.as_ptr(), masks.len(), out.as_mut_ptr(), out.len()) })
 }
 
 /// Opens a Boolean sharing: the XOR of its n shares.
@@ -120,26 +120,38 @@ pub fn parameter_set(number: usize) -> Result<Parameters, Refusal> {
     judged(answer.code, 0, Parameters { k: answer.k, q: answer.q })
 }
 
-/// Converts a shared bit to n shares modulo q, with the first [`bit_words`] words. Answers their number. With words drawn evenly, each apart
-/// from all others and used once, no n - 1 of the shares tell anything of the bit.
+/// Converts a shared bit to n shares modulo q, with the [`bit_words`] words from position start on. Answers the position behind them, where
+/// the next call may start. With words drawn evenly, each apart from all others and used once, no n - 1 of the shares tell anything of the bit.
 ///
 /// Refuses, in this order: `ShareCount`; `Modulus`, for q below 3; `XCount`; `XWidth`, for a share that is not 0 or 1, with its position;
-/// `WordCount`; `WordRange`, with the word's position; `OutputRoom`, for fewer than n output words. Words and output words past those are
+/// `WordCount`, for fewer words than start plus those taken, which does not overflow; `WordRange`, for one of those taken, with its position
+/// from the front of the list; `OutputRoom`, for fewer than n output words. Words before start, and words and output words past those, are
 /// neither read nor written.
-pub fn convert_bit(n: usize, q: u16, bits: &[u16], words: &[u16], out: &mut [u16]) -> Result<usize, Refusal> {
-    counted(unsafe { ffi::tp_convert_bit(n, q, bits.as_ptr(), bits.len(), words.as_ptr(), words.len(), out.as_mut_ptr(), out.len()) })
+pub fn convert_bit(n: usize, q: u16, bits: &[u16], words: &[u16], start: usize, out: &mut [u16]) -> Result<usize, Refusal> {
+    answered(unsafe { ffi::tp_convert_bit(n, q, bits.as_ptr(), bits.len(), words.as_ptr(), words.len(), start, out.as_mut_ptr(), out.len()) })
 }
 
-/// Samples: n shares modulo q of the weight of x less the weight of y, with the first [`sample_words`] words. Answers their number. With
-/// words drawn evenly, each apart from all others and used once, no n - 1 of the shares tell anything of x and y. The first [`sample_work`]
-/// words of the work area are 0 afterwards.
+/// Samples: n shares modulo q of the weight of x less the weight of y, with the [`sample_words`] words from position start on. Answers the
+/// position behind them, where the next call may start. With words drawn evenly, each apart from all others and used once, no n - 1 of the
+/// shares tell anything of x and y. The first [`sample_work`] words of the work area are 0 afterwards.
 ///
 /// Refuses, in this order: `ShareCount`; `StringLength`; `Modulus`, for q below 2k + 1; `XCount`; `YCount`; `XWidth` and `YWidth`, with the
-/// share's position; `WordCount`; `WordRange`, with the word's position; `OutputRoom`, for fewer than n output words; `WorkRoom`. Words, output
-/// words and work words past those are neither read nor written.
+/// share's position; `WordCount`, for fewer words than start plus those taken, which does not overflow; `WordRange`, for one of those taken,
+/// with its position from the front of the list; `OutputRoom`, for fewer than n output words; `WorkRoom`. Words before start, and words, output
+/// words and work words past those, are neither read nor written.
 #[allow(clippy::too_many_arguments)]
-pub fn sample(n: usize, k: usize, q: u16, x: &[u16], y: &[u16], words: &[u16], out: &mut [u16], work: &mut [u16]) -> Result<usize, Refusal> {
-    counted(unsafe {
+pub fn sample(
+    n: usize,
+    k: usize,
+    q: u16,
+    x: &[u16],
+    y: &[u16],
+    words: &[u16],
+    start: usize,
+    out: &mut [u16],
+    work: &mut [u16],
+) -> Result<usize, Refusal> {
+    answered(unsafe {
         ffi::tp_sample(
             n,
             k,
@@ -150,6 +162,7 @@ pub fn sample(n: usize, k: usize, q: u16, x: &[u16], y: &[u16], words: &[u16], o
             y.len(),
             words.as_ptr(),
             words.len(),
+            start,
             out.as_mut_ptr(),
             out.len(),
             work.as_mut_ptr(),
@@ -179,7 +192,7 @@ pub fn sample_polynomial(
     out: &mut [u16],
     work: &mut [u16],
 ) -> Result<usize, Refusal> {
-    counted(unsafe {
+    answered(unsafe {
         ffi::tp_sample_polynomial(
             n,
             k,
@@ -206,5 +219,5 @@ pub fn sample_polynomial(
 /// Refuses, in this order: `WordCount`, for a word buffer of fewer than [`MAX_WORDS`] words; `OutputRoom`, for a text buffer of fewer than
 /// [`text_room`] bytes. Text bytes past the text keep their content.
 pub fn lesson_text(file: &[u8], words: &mut [u16], text: &mut [u8]) -> Result<usize, Refusal> {
-    counted(unsafe { ffi::tp_lesson_text(file.as_ptr(), file.len(), words.as_mut_ptr(), words.len(), text.as_mut_ptr(), text.len()) })
+    answered(unsafe { ffi::tp_lesson_text(file.as_ptr(), file.len(), words.as_mut_ptr(), words.len(), text.as_mut_ptr(), text.len()) })
 }

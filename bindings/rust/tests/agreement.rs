@@ -9,10 +9,21 @@ fn refused<T>(reason: Reason, position: usize) -> Result<T, Refusal> {
     Err(Refusal { reason, position })
 }
 
+/// Where calls start that must reach the end of the list.
+const STARTS: [usize; 3] = [0, 1, 7];
+
+/// Where no call can start, whatever the list.
+const FAR_STARTS: [usize; 3] = [usize::MAX, usize::MAX - 1, usize::MAX / 2];
+
+/// A list of words that are not below q up to the start, and then zeros.
+fn words_from(start: usize, len: usize) -> Vec<u16> {
+    (0..len).map(|position| if position < start { u16::MAX } else { 0 }).collect()
+}
+
 /// A sample of zeros with lists of these lengths.
-fn sample_of(n: usize, k: usize, q: u16, words: usize, out: usize, work: usize) -> Result<usize, Refusal> {
+fn sample_of(n: usize, k: usize, q: u16, words: usize, start: usize, out: usize, work: usize) -> Result<usize, Refusal> {
     let shares = vec![0; n];
-    sample(n, k, q, &shares, &shares, &vec![0; words], &mut vec![0; out], &mut vec![0; work])
+    sample(n, k, q, &shares, &shares, &words_from(start, words), start, &mut vec![0; out], &mut vec![0; work])
 }
 
 /// A polynomial of zeros with lists of these lengths.
@@ -28,8 +39,8 @@ fn fitting_polynomial(n: usize, k: usize, m: usize) -> Result<usize, Refusal> {
 }
 
 /// A converted bit 0 with lists of these lengths.
-fn bit_of(n: usize, words: usize, out: usize) -> Result<usize, Refusal> {
-    convert_bit(n, Q, &vec![0; n], &vec![0; words], &mut vec![0; out])
+fn bit_of(n: usize, words: usize, start: usize, out: usize) -> Result<usize, Refusal> {
+    convert_bit(n, Q, &vec![0; n], &words_from(start, words), start, &mut vec![0; out])
 }
 
 /// The text of a file in a buffer of so many bytes.
@@ -44,11 +55,15 @@ fn sample_sizes_are_exact() {
     for n in MIN_SHARES..=MAX_SHARES {
         for k in MIN_BITS..=MAX_BITS {
             let (words, work) = (sample_words(n, k), sample_work(n, k));
-            for q in [2 * k as u16 + 1, Q, u16::MAX] {
-                assert_eq!(sample_of(n, k, q, words, n, work), Ok(words));
-                assert_eq!(sample_of(n, k, q, words - 1, n, work), refused(Reason::WordCount, 0));
-                assert_eq!(sample_of(n, k, q, words, n - 1, work), refused(Reason::OutputRoom, 0));
-                assert_eq!(sample_of(n, k, q, words, n, work - 1), refused(Reason::WorkRoom, 0));
+            for (q, start) in [2 * k as u16 + 1, Q, u16::MAX].into_iter().zip(STARTS) {
+                let end = start + words;
+                assert_eq!(sample_of(n, k, q, end, start, n, work), Ok(end));
+                assert_eq!(sample_of(n, k, q, end - 1, start, n, work), refused(Reason::WordCount, 0));
+                assert_eq!(sample_of(n, k, q, end, start, n - 1, work), refused(Reason::OutputRoom, 0));
+                assert_eq!(sample_of(n, k, q, end, start, n, work - 1), refused(Reason::WorkRoom, 0));
+            }
+            for start in FAR_STARTS {
+                assert_eq!(sample_of(n, k, Q, words, start, n, work), refused(Reason::WordCount, 0));
             }
         }
     }
@@ -73,9 +88,15 @@ fn polynomial_sizes_are_exact() {
 #[test]
 fn bit_sizes_are_exact() {
     for n in MIN_SHARES..=MAX_SHARES {
-        assert_eq!(bit_of(n, bit_words(n), n), Ok(bit_words(n)));
-        assert_eq!(bit_of(n, bit_words(n) - 1, n), refused(Reason::WordCount, 0));
-        assert_eq!(bit_of(n, bit_words(n), n - 1), refused(Reason::OutputRoom, 0));
+        for start in STARTS {
+            let end = start + bit_words(n);
+            assert_eq!(bit_of(n, end, start, n), Ok(end));
+            assert_eq!(bit_of(n, end - 1, start, n), refused(Reason::WordCount, 0));
+            assert_eq!(bit_of(n, end, start, n - 1), refused(Reason::OutputRoom, 0));
+        }
+        for start in FAR_STARTS {
+            assert_eq!(bit_of(n, bit_words(n), start, n), refused(Reason::WordCount, 0));
+        }
     }
 }
 
@@ -91,10 +112,10 @@ fn sizes_of_unfit_numbers_do_not_overflow() {
 #[test]
 fn ranges_are_exact() {
     for n in [MIN_SHARES - 1, MAX_SHARES + 1] {
-        assert_eq!(sample_of(n, 1, Q, sample_words(n, 1), n, sample_work(n, 1)), refused(Reason::ShareCount, 0));
+        assert_eq!(sample_of(n, 1, Q, sample_words(n, 1), 0, n, sample_work(n, 1)), refused(Reason::ShareCount, 0));
     }
     for k in [MIN_BITS - 1, MAX_BITS + 1] {
-        assert_eq!(sample_of(2, k, Q, sample_words(2, k), 2, sample_work(2, k)), refused(Reason::StringLength, 0));
+        assert_eq!(sample_of(2, k, Q, sample_words(2, k), 0, 2, sample_work(2, k)), refused(Reason::StringLength, 0));
     }
     for m in [MIN_COEFFICIENTS - 1, MAX_COEFFICIENTS + 1] {
         assert_eq!(fitting_polynomial(2, 1, m), refused(Reason::CoefficientCount, 0));
@@ -118,7 +139,7 @@ fn text_room_is_exact() {
 #[test]
 fn every_reason_of_a_call_is_met() {
     let (mut out, mut work) = ([0; 2], [0; 4]);
-    let mut sampled = |q, x: &[u16], y: &[u16], words: &[u16]| sample(2, 1, q, x, y, words, &mut out, &mut work).map(drop);
+    let mut sampled = |q, x: &[u16], y: &[u16], words: &[u16]| sample(2, 1, q, x, y, words, words.len() - 4, &mut out, &mut work).map(drop);
     let bits = [1, 0];
     let mut met = vec![
         (sampled(2, &bits, &bits, &[0; 4]), 3, Reason::Modulus, 0),
@@ -126,14 +147,14 @@ fn every_reason_of_a_call_is_met() {
         (sampled(3, &bits, &[0; 3], &[0; 4]), 5, Reason::YCount, 0),
         (sampled(3, &[0, 2], &bits, &[0; 4]), 6, Reason::XWidth, 1),
         (sampled(3, &bits, &[0, 2], &[0; 4]), 7, Reason::YWidth, 1),
-        (sampled(3, &bits, &bits, &[0; 3]), 8, Reason::WordCount, 0),
-        (sampled(3, &bits, &bits, &[0, 0, 0, 3]), 9, Reason::WordRange, 3),
+        (sampled(3, &bits, &bits, &[3, 3, 0, 0, 0, 3]), 9, Reason::WordRange, 5),
     ];
     met.extend([
-        (sample_of(1, 1, 3, 4, 2, 4).map(drop), 1, Reason::ShareCount, 0),
-        (sample_of(2, 0, 3, 4, 2, 4).map(drop), 2, Reason::StringLength, 0),
-        (sample_of(2, 1, 3, 4, 1, 4).map(drop), 10, Reason::OutputRoom, 0),
-        (sample_of(2, 1, 3, 4, 2, 3).map(drop), 11, Reason::WorkRoom, 0),
+        (sample_of(1, 1, 3, 4, 0, 2, 4).map(drop), 1, Reason::ShareCount, 0),
+        (sample_of(2, 0, 3, 4, 0, 2, 4).map(drop), 2, Reason::StringLength, 0),
+        (sample_of(2, 1, 3, 4, 1, 2, 4).map(drop), 8, Reason::WordCount, 0),
+        (sample_of(2, 1, 3, 4, 0, 1, 4).map(drop), 10, Reason::OutputRoom, 0),
+        (sample_of(2, 1, 3, 4, 0, 2, 3).map(drop), 11, Reason::WorkRoom, 0),
         (weight_difference(1, OpenedString(1), OpenedString(2)).map(drop), 12, Reason::ValueWidth, 1),
         (mask(3, 1, OpenedString(1), &[0; 3], &mut [0; 3]).map(drop), 13, Reason::MaskCount, 0),
         (mask(3, 1, OpenedString(1), &[0, 2], &mut [0; 3]).map(drop), 14, Reason::MaskWidth, 1),
