@@ -1,6 +1,6 @@
 //! A call of the library with its inputs, and what it should leave behind, worked out from the documents.
 
-use crate::calls::{centre, convert_bit, mask, open_residue, open_string, parameter_set, sample, sample_polynomial, weight_difference, Verdict};
+use crate::calls::{centre, coefficients, convert_bit, mask, open_residue, open_string, parameter_set, sample, weight_difference, Verdict};
 use crate::lent::{guarded, unguarded, GUARDS};
 use crate::lesson::{lesson, MOST_BYTES, MOST_WORDS};
 use crate::show::{difference, hex};
@@ -32,7 +32,8 @@ pub const FUNCTIONS: [Function; 10] = [
     Function::LessonText,
 ];
 
-/// A function's name, the names of its numbers and lists in their order, and its refusals, each with the last place that it can have.
+/// A function's name, the names of its numbers and lists in their order, and its refusals, each with the last place that it can have, which for
+/// 9 is counted from the start.
 pub struct Form {
     pub name: &'static str,
     pub numbers: &'static [&'static str],
@@ -45,7 +46,7 @@ const fn form(name: &'static str, numbers: &'static [&'static str], lists: &'sta
 }
 
 /// The place of a name.
-pub fn place_of(names: &[&str], name: &str) -> Option<usize> {
+fn place_of(names: &[&str], name: &str) -> Option<usize> {
     names.iter().position(|other| *other == name)
 }
 
@@ -60,11 +61,11 @@ impl Function {
             Function::ParameterSet => form("tp_parameter_set", &["number"], &[], &[(22, 0)]),
             Function::ConvertBit => {
                 let refusals = &[(1, 0), (3, 0), (4, 0), (6, 7), (8, 0), (9, 55), (10, 0)];
-                form("tp_convert_bit", &["n", "q"], &["bits", "words", "out"], refusals)
+                form("tp_convert_bit", &["n", "q", "start"], &["bits", "words", "out"], refusals)
             }
             Function::Sample => {
                 let refusals = &[(1, 0), (2, 0), (3, 0), (4, 0), (5, 0), (6, 7), (7, 7), (8, 0), (9, 1_791), (10, 0), (11, 0)];
-                form("tp_sample", &["n", "k", "q"], &["x", "y", "words", "out", "work"], refusals)
+                form("tp_sample", &["n", "k", "q", "start"], &["x", "y", "words", "out", "work"], refusals)
             }
             Function::SamplePolynomial => {
                 let refusals = &[(1, 0), (2, 0), (3, 0), (23, 0), (4, 0), (5, 0), (6, 2_047), (7, 2_047), (8, 0), (9, 458_751), (10, 0), (11, 0)];
@@ -75,7 +76,7 @@ impl Function {
     }
 }
 
-/// The three numbers of an answer: the code; the count, position or k; what was opened, the value or q. One that an answer lacks is 0.
+/// The three numbers of an answer: the code; the count, place or k; what was opened, the value or q. One that an answer lacks is 0.
 #[derive(Clone, Copy, Debug, PartialEq, Eq)]
 pub struct Answer {
     pub code: u64,
@@ -94,6 +95,7 @@ pub fn judged<T>(verdict: Verdict<T>, accepted: impl Fn(T) -> (u64, i64)) -> Ans
     }
 }
 
+/// Accepted with a count, or with the place after the last word.
 pub fn counted(verdict: Verdict<u64>) -> Answer {
     judged(verdict, |count| (count, 0))
 }
@@ -140,6 +142,7 @@ pub fn bytes(list: &[u64]) -> Vec<u8> {
     list.iter().map(|x| *x as u8).collect()
 }
 
+#[derive(Clone)]
 pub struct Call {
     pub function: Function,
     pub numbers: Vec<u64>,
@@ -152,6 +155,20 @@ impl Call {
         place_of(self.function.form().numbers, name).map(|place| self.numbers[place])
     }
 
+    /// The place of a list that the function has.
+    pub fn list_place(&self, name: &str) -> usize {
+        place_of(self.function.form().lists, name).expect("a list of this name")
+    }
+
+    pub fn list(&self, name: &str) -> &[u64] {
+        &self.lists[self.list_place(name)]
+    }
+
+    pub fn set_number(&mut self, name: &str, number: u64) {
+        let place = place_of(self.function.form().numbers, name).expect("a number of this name");
+        self.numbers[place] = number;
+    }
+
     pub fn expected(&self) -> Outcome {
         let mut lists = self.lists.clone();
         let answer = match (self.function, &self.numbers[..], &mut lists[..]) {
@@ -161,11 +178,9 @@ impl Call {
             (Function::Centred, &[q, r], []) => judged(centre(q, r), |value| (0, value)),
             (Function::WeightDifference, &[k, x, y], []) => judged(weight_difference(k, x, y), |value| (0, value)),
             (Function::ParameterSet, &[number], []) => judged(parameter_set(number), |(k, q)| (k, q as i64)),
-            (Function::ConvertBit, &[n, q], [bits, words, out]) => counted(convert_bit(n, q, bits, words, out)),
-            (Function::Sample, &[n, k, q], [x, y, words, out, work]) => counted(sample(n, k, q, [x, y], words, out, work)),
-            (Function::SamplePolynomial, &[n, k, q, m], [x, y, words, out, work]) => {
-                counted(sample_polynomial([n, k, q, m], [x, y], words, out, work))
-            }
+            (Function::ConvertBit, &[n, q, start], [bits, words, out]) => counted(convert_bit(n, q, bits, words, start, out)),
+            (Function::Sample, &[n, k, q, start], [x, y, words, out, work]) => counted(sample([n, k, q], [x, y], words, start, out, work)),
+            (Function::SamplePolynomial, &[n, k, q, m], [x, y, words, out, work]) => counted(coefficients([n, k, q, m], [x, y], words, 0, out, work)),
             (Function::LessonText, [], [file, words, text]) => counted(lesson_text(file, words, text)),
             _ => panic!("the inputs of another function"),
         };

@@ -1,4 +1,5 @@
-//! The calls of document 01, and the polynomials of document 02, written from the pages alone and sharing no code with the library.
+//! The calls of document 01, with the starting place and the polynomials of document 02, written from the pages alone and sharing no code with
+//! the library.
 
 /// How a call ends: what it answers, or the documents' number and place.
 pub type Verdict<T> = Result<T, (u64, usize)>;
@@ -67,7 +68,16 @@ fn refresh(q: u64, list: &mut [u64], words: &[u64]) {
     }
 }
 
-/// Steps 1, 2 and 3: the n numbers of a shared bit, with its n(n − 1) words at the front of the list.
+/// Questions 8 and 9: from the starting place on there are so many words, and each is below q. Answers the words.
+fn ask_words(words: &[u64], start: u64, count: u64, q: u64) -> Verdict<&[u64]> {
+    let end = start as u128 + count as u128;
+    ask(words.len() as u128 >= end, 8, 0)?;
+    let taken = &words[start as usize..end as usize];
+    ask_all(taken, 9, |r| r < q).map_err(|(number, place)| (number, start as usize + place))?;
+    Ok(taken)
+}
+
+/// Steps 1, 2 and 3: the n numbers of a shared bit, with its n(n − 1) words.
 fn numbers_of_bit(q: u64, bits: &[u64], words: &[u64]) -> Vec<u64> {
     let mut list = vec![bits[0]];
     let mut rest = words;
@@ -80,18 +90,22 @@ fn numbers_of_bit(q: u64, bits: &[u64], words: &[u64]) -> Vec<u64> {
     list
 }
 
-/// One shared bit to n numbers. Like every modulus of the page, q is a 16-bit number.
-pub fn convert_bit(n: u64, q: u64, bits: &[u64], words: &[u64], out: &mut [u64]) -> Verdict<u64> {
+/// The random words that a bit takes.
+pub fn bit_words(n: u64) -> u64 {
+    n * (n - 1)
+}
+
+/// One shared bit to n numbers, with the words from the starting place on. Answers the place after the last. Like every modulus of the page, q
+/// is a 16-bit number.
+pub fn convert_bit(n: u64, q: u64, bits: &[u64], words: &[u64], start: u64, out: &mut [u64]) -> Verdict<u64> {
     ask((2..=8).contains(&n), 1, 0)?;
     ask(q >= 3, 3, 0)?;
     ask(bits.len() as u64 == n, 4, 0)?;
     ask_all(bits, 6, |b| b <= 1)?;
-    let count = n * (n - 1);
-    ask(words.len() as u64 >= count, 8, 0)?;
-    ask_all(&words[..count as usize], 9, |r| r < q)?;
+    let taken = ask_words(words, start, bit_words(n), q)?;
     ask(out.len() as u64 >= n, 10, 0)?;
-    out[..n as usize].copy_from_slice(&numbers_of_bit(q, bits, words));
-    Ok(count)
+    out[..n as usize].copy_from_slice(&numbers_of_bit(q, bits, taken));
+    Ok(start + bit_words(n))
 }
 
 pub fn open_string(n: u64, k: u64, shares: &[u64]) -> Verdict<u64> {
@@ -135,31 +149,33 @@ pub fn parameters(n: u64, k: u64, q: u64) -> Verdict<()> {
 
 /// W, the random words that a sample takes.
 pub fn words_needed(n: u64, k: u64) -> u64 {
-    2 * k * n * (n - 1)
+    2 * k * bit_words(n)
 }
 
-/// The output shares of a sample, by the rows of its bits in the work area.
-fn shares_of_sample(k: usize, q: u64, [x, y]: [&[u64]; 2], words: &[u64], out: &mut [u64], work: &mut [u64]) {
-    let n = out.len();
+/// The output shares of a sample, by the rows of its bits in the work area, each with the next words. Answers the place after the last.
+fn shares_of_sample(k: usize, q: u64, [x, y]: [&[u64]; 2], words: &[u64], start: u64, out: &mut [u64], work: &mut [u64]) -> u64 {
+    let (n, mut next) = (out.len(), start);
     for row in 0..2 * k {
         let (shares, bit) = if row < k { (x, row) } else { (y, row - k) };
         let bits: Vec<u64> = shares.iter().map(|s| s >> bit & 1).collect();
-        convert_bit(n as u64, q, &bits, &words[row * n * (n - 1)..], &mut work[row * n..]).expect("a shared bit and its words");
+        next = convert_bit(n as u64, q, &bits, words, next, &mut work[row * n..]).expect("a shared bit and its words");
     }
     for (i, share) in out.iter_mut().enumerate() {
         let x_sum = (0..k).map(|row| work[row * n + i]).sum::<u64>() % q;
         let y_sum = (k..2 * k).map(|row| work[row * n + i]).sum::<u64>() % q;
         *share = minus(x_sum, y_sum, q);
     }
+    next
 }
 
-/// The sampler, which is a polynomial of one coefficient. The strings are the shares of x and the shares of y.
-pub fn sample(n: u64, k: u64, q: u64, strings: [&[u64]; 2], words: &[u64], out: &mut [u64], work: &mut [u64]) -> Verdict<u64> {
-    sample_polynomial([n, k, q, 1], strings, words, out, work)
+/// The sampler, which makes one coefficient. The strings are the shares of x and the shares of y.
+pub fn sample([n, k, q]: [u64; 3], strings: [&[u64]; 2], words: &[u64], start: u64, out: &mut [u64], work: &mut [u64]) -> Verdict<u64> {
+    coefficients([n, k, q, 1], strings, words, start, out, work)
 }
 
-/// Request A.1 of document 02: m coefficients, one after the other in all lists but the work area.
-pub fn sample_polynomial([n, k, q, m]: [u64; 4], strings: [&[u64]; 2], words: &[u64], out: &mut [u64], work: &mut [u64]) -> Verdict<u64> {
+/// m coefficients, one after the other in all lists but the work area, with the words from the starting place on. Answers the place after the
+/// last. From place 0 it is the polynomial call of document 02.
+pub fn coefficients([n, k, q, m]: [u64; 4], strings: [&[u64]; 2], words: &[u64], start: u64, out: &mut [u64], work: &mut [u64]) -> Verdict<u64> {
     let [x, y] = strings;
     parameters(n, k, q)?;
     ask((1..=256).contains(&m), 23, 0)?;
@@ -167,18 +183,17 @@ pub fn sample_polynomial([n, k, q, m]: [u64; 4], strings: [&[u64]; 2], words: &[
     ask(y.len() as u64 == m * n, 5, 0)?;
     ask_all(x, 6, |s| !has_bits_at_or_above(s, k))?;
     ask_all(y, 7, |s| !has_bits_at_or_above(s, k))?;
-    let count = m * words_needed(n, k);
-    ask(words.len() as u64 >= count, 8, 0)?;
-    ask_all(&words[..count as usize], 9, |r| r < q)?;
+    ask_words(words, start, m * words_needed(n, k), q)?;
     ask(out.len() as u64 >= m * n, 10, 0)?;
     ask(work.len() as u64 >= 2 * k * n, 11, 0)?;
+    let mut next = start;
     for t in 0..m {
         let shares = (t * n) as usize..((t + 1) * n) as usize;
-        let words = &words[(t * words_needed(n, k)) as usize..];
-        shares_of_sample(k as usize, q, strings.map(|list| &list[shares.clone()]), words, &mut out[shares.clone()], work);
+        let strings = strings.map(|list| &list[shares.clone()]);
+        next = shares_of_sample(k as usize, q, strings, words, next, &mut out[shares], work);
     }
     work[..(2 * k * n) as usize].fill(0);
-    Ok(count)
+    Ok(next)
 }
 
 /// The shares add up to the weight of x less the weight of y, modulo q.

@@ -107,7 +107,7 @@ fn sample_line(line: &Line) -> String {
     let (n, k, q) = (line.number("n"), line.number("k"), line.number("q"));
     let (x, y) = (line.list("x"), line.list("y"));
     let (mut out, mut work) = ([0; 8], [0; 256]);
-    let verdict = sample(n, k, q, [&x, &y], &line.list("words"), &mut out, &mut work);
+    let verdict = sample([n, k, q], [&x, &y], &line.list("words"), 0, &mut out, &mut work);
     let answer = ending(verdict, |used| {
         let shares = &out[..n as usize];
         assert!(adds_up(q, [&x, &y], shares), "the shares do not add up");

@@ -104,18 +104,18 @@ impl Call {
                 (Function::Centred, &[q, r], []) => tp_centred(q as u16, tp_residue { value: r as u16 }).into(),
                 (Function::WeightDifference, &[k, x, y], []) => tp_weight_difference(k as usize, bits(x), bits(y)).into(),
                 (Function::ParameterSet, &[number], []) => tp_parameter_set(number as usize).into(),
-                (Function::ConvertBit, &[n, q], [bits, words, out]) => {
-                    let (bits_len, words_len, out_len) = (bits.len(), words.len(), out.len());
-                    tp_convert_bit(n as usize, q as u16, bits.start(), bits_len, words.start(), words_len, out.start(), out_len).into()
+                (Function::ConvertBit, &[n, q, start], [bits, words, out]) => {
+                    let [bits, words, out] = [bits, words, out].map(|list| (list.start(), list.len()));
+                    tp_convert_bit(n as usize, q as u16, bits.0, bits.1, words.0, words.1, start as usize, out.0, out.1).into()
                 }
-                (Function::Sample | Function::SamplePolynomial, numbers, [x, y, words, out, work]) => {
+                (Function::Sample | Function::SamplePolynomial, &[n, k, q, last], [x, y, words, out, work]) => {
                     let [x, y, words, out, work] = [x, y, words, out, work].map(|list| (list.start(), list.len()));
-                    let (n, k, q) = (numbers[0] as usize, numbers[1] as usize, numbers[2] as u16);
-                    match numbers.get(3) {
-                        None => tp_sample(n, k, q, x.0, x.1, y.0, y.1, words.0, words.1, out.0, out.1, work.0, work.1),
-                        Some(&m) => tp_sample_polynomial(n, k, q, m as usize, x.0, x.1, y.0, y.1, words.0, words.1, out.0, out.1, work.0, work.1),
+                    let (n, k, q, last) = (n as usize, k as usize, q as u16, last as usize);
+                    if self.function == Function::Sample {
+                        tp_sample(n, k, q, x.0, x.1, y.0, y.1, words.0, words.1, last, out.0, out.1, work.0, work.1).into()
+                    } else {
+                        tp_sample_polynomial(n, k, q, last, x.0, x.1, y.0, y.1, words.0, words.1, out.0, out.1, work.0, work.1).into()
                     }
-                    .into()
                 }
                 _ => panic!("the inputs of another function"),
             }
@@ -138,12 +138,12 @@ impl Call {
             (Function::ParameterSet, &[number], []) => {
                 judged(verdict(tinplateau::parameter_set(number as usize)), |set| (set.k as u64, set.q as i64))
             }
-            (Function::ConvertBit, &[n, q], [bits, words, out]) => {
-                count(tinplateau::convert_bit(n as usize, q as u16, bits.list(), words.list(), out.list_mut()))
+            (Function::ConvertBit, &[n, q, start], [bits, words, out]) => {
+                count(tinplateau::convert_bit(n as usize, q as u16, bits.list(), words.list(), start as usize, out.list_mut()))
             }
-            (Function::Sample, &[n, k, q], [x, y, words, out, work]) => {
-                let (n, k, q) = (n as usize, k as usize, q as u16);
-                count(tinplateau::sample(n, k, q, x.list(), y.list(), words.list(), out.list_mut(), work.list_mut()))
+            (Function::Sample, &[n, k, q, start], [x, y, words, out, work]) => {
+                let (n, k, q, start) = (n as usize, k as usize, q as u16, start as usize);
+                count(tinplateau::sample(n, k, q, x.list(), y.list(), words.list(), start, out.list_mut(), work.list_mut()))
             }
             (Function::SamplePolynomial, &[n, k, q, m], [x, y, words, out, work]) => {
                 let (n, k, q, m) = (n as usize, k as usize, q as u16, m as usize);

@@ -143,7 +143,7 @@ impl<'a> Reader<'a> {
         let (random, count) = self.random_words()?;
         let (x, y) = if x_first { (&first_shares, &second_shares) } else { (&second_shares, &first_shares) };
         let (mut out, mut work) = (vec![0; n as usize], vec![0; 2 * (k * n) as usize]);
-        match sample(n, k, q, [x, y], &self.buffer[..count], &mut out, &mut work) {
+        match sample([n, k, q], [x, y], &self.buffer[..count], 0, &mut out, &mut work) {
             Ok(used) => {
                 let centred = centred_sample(n, k, q, [x, y], &out);
                 let shares: String = out.iter().map(|share| format!(" {share}")).collect();

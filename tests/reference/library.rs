@@ -5,6 +5,7 @@
 
 mod call;
 mod calls;
+mod draft;
 mod draw;
 mod files;
 mod found;
@@ -15,7 +16,9 @@ mod met;
 mod polynomial;
 mod secrecy;
 mod show;
+mod start;
 mod tally;
+mod walk;
 
 use call::{bytes, Call, Function, Outcome};
 use draw::Dice;
@@ -25,9 +28,13 @@ use met::Met;
 use std::collections::BTreeSet;
 use std::process::exit;
 use tally::{print_gaps, Tally};
+use walk::Walk;
 
 /// Fewer made calls than this say too little.
 const FEWEST_CALLS: usize = 100_000;
+
+/// After so many made calls there is a walk.
+const CALLS_TO_A_WALK: usize = 150;
 
 /// After so many differences the rest is not tried.
 const MOST_DIFFERENCES: usize = 5;
@@ -41,6 +48,7 @@ struct Comparison {
     through_slices: Met,
     lessons: Tally,
     file_lengths: BTreeSet<usize>,
+    walks: usize,
 }
 
 impl Comparison {
@@ -117,9 +125,28 @@ impl Comparison {
         }
     }
 
+    /// Each call starts where the one before answers that it ends, and does what it does with its own words alone.
+    fn walk(&mut self, walk: &Walk) {
+        let (mut start, mut end) = (walk.first, walk.first);
+        for alone in &walk.calls {
+            let within = walk.within(alone, start);
+            let (mut by_itself, mut on_the_way) = (self.compare(alone), self.compare(&within));
+            end += alone.list("words").len() as u64;
+            start = on_the_way.answer.place;
+            for outcome in [&mut by_itself, &mut on_the_way] {
+                outcome.guarded.remove(alone.list_place("words"));
+            }
+            if start != end || by_itself.guarded != on_the_way.guarded {
+                self.differs(&within, &format!("  ends at {start}, not at {end}, or differs from the call with its own words alone"));
+            }
+        }
+        self.walks += 1;
+    }
+
     /// Prints what the calls met. Answers how much they should have met and did not.
     fn print(&self, made: usize) -> usize {
         println!("library: {made} calls made, {} compared with those that follow from them", self.compared);
+        println!("  {} walks through one list of words, by calls that hand the position on", self.walks);
         let lengths = [MOST_BYTES, MOST_BYTES + 1];
         let missing: Vec<usize> = lengths.into_iter().filter(|length| !self.file_lengths.contains(length)).collect();
         let gaps: Vec<String> = missing.iter().map(|length| format!("no file of {length} bytes")).collect();
@@ -136,6 +163,9 @@ fn agrees(seed: u64, count: usize) -> bool {
     let mut comparison = Comparison { seed, ..Comparison::default() };
     for number in 0..count {
         comparison.take(&inputs::made(seed, number));
+        if number % CALLS_TO_A_WALK == 0 {
+            comparison.walk(&walk::made(seed, number));
+        }
         if comparison.differences >= MOST_DIFFERENCES {
             eprintln!("{MOST_DIFFERENCES} differences, the last at call {number} of seed {seed}; the rest is not tried");
             return false;

@@ -1,20 +1,41 @@
 //! What the compared calls met: which function accepted or refused, why and at which places.
 
 use crate::call::{Answer, Call, Function, FUNCTIONS};
-use crate::polynomial;
 use crate::tally::print_gaps;
+use crate::{polynomial, start};
 use std::collections::{BTreeMap, BTreeSet};
+
+/// A kind of call that is met less often says too little.
+const FEWEST_OF_A_KIND: usize = 10;
 
 /// Counts over the calls of one function.
 #[derive(Default)]
 struct Counts {
     by_code: BTreeMap<u64, usize>,
-    /// The places of each refusal.
+    /// The places of each refusal, for 9 counted from the start.
     places: BTreeMap<u64, BTreeSet<u64>>,
     /// The n and k of the accepted calls.
     pairs: BTreeSet<(u64, u64)>,
-    /// What else calls for polynomials met.
-    polynomials: BTreeSet<String>,
+    /// What else the calls met, and how often.
+    kinds: BTreeMap<String, usize>,
+}
+
+/// What else the calls of a function are to meet.
+fn kinds_to_meet(function: Function) -> Vec<String> {
+    match function {
+        Function::SamplePolynomial => polynomial::to_meet(),
+        Function::ConvertBit | Function::Sample => start::to_meet(function),
+        _ => vec![],
+    }
+}
+
+/// What one call meets of that.
+fn kinds_met(call: &Call, answer: Answer) -> Vec<String> {
+    match call.function {
+        Function::SamplePolynomial => polynomial::met(call, answer),
+        Function::ConvertBit | Function::Sample => start::met(call, answer),
+        _ => vec![],
+    }
 }
 
 /// Counts over all calls of a layer.
@@ -28,11 +49,12 @@ impl Met {
     pub fn count(&mut self, call: &Call, answer: Answer) {
         let counts = self.functions.entry(call.function).or_default();
         *counts.by_code.entry(answer.code).or_default() += 1;
-        if call.function == Function::SamplePolynomial {
-            counts.polynomials.extend(polynomial::met(call, answer));
+        for kind in kinds_met(call, answer) {
+            *counts.kinds.entry(kind).or_default() += 1;
         }
         if answer.code != 0 {
-            counts.places.entry(answer.code).or_default().insert(answer.place);
+            let from = if answer.code == 9 { call.number("start").unwrap_or(0) } else { 0 };
+            counts.places.entry(answer.code).or_default().insert(answer.place - from);
         } else if let (Some(n), Some(k)) = (call.number("n"), call.number("k")) {
             counts.pairs.insert((n, k));
         }
@@ -61,6 +83,10 @@ impl Counts {
         self.by_code.get(&code).copied().unwrap_or(0)
     }
 
+    fn of_kind(&self, kind: &str) -> usize {
+        self.kinds.get(kind).copied().unwrap_or(0)
+    }
+
     fn places(&self, number: u64) -> BTreeSet<u64> {
         self.places.get(&number).cloned().unwrap_or_default()
     }
@@ -72,11 +98,12 @@ impl Counts {
             format!("{number}: {}{places}", self.times(*number))
         };
         let refusals: Vec<String> = form.refusals.iter().map(refusal).collect();
-        format!("{} {}, accepted {}, refused {}", form.name, self.all(), self.times(0), refusals.join(", "))
+        let kinds: String = kinds_to_meet(function).iter().map(|kind| format!("; {kind}: {}", self.of_kind(kind))).collect();
+        format!("{} {}, accepted {}, refused {}{kinds}", form.name, self.all(), self.times(0), refusals.join(", "))
     }
 
-    /// What the calls should have met and did not: each refusal, at the first and the last place, acceptance with every n and k, and what
-    /// polynomials should meet besides.
+    /// What the calls should have met and did not: each refusal, at the first and the last place, acceptance with every n and k, and often enough
+    /// each kind that the function has besides.
     fn gaps(&self, function: Function) -> Vec<String> {
         let form = function.form();
         let mut gaps = Vec::new();
@@ -93,9 +120,8 @@ impl Counts {
         if form.numbers.starts_with(&["n", "k"]) && self.pairs.len() != 7 * 16 {
             gaps.push(format!("{} accepts only {} pairs of n and k", form.name, self.pairs.len()));
         }
-        if function == Function::SamplePolynomial {
-            let missing = polynomial::to_meet().into_iter().filter(|met| !self.polynomials.contains(met));
-            gaps.extend(missing.map(|met| format!("{} is never {met}", form.name)));
+        for kind in kinds_to_meet(function).iter().filter(|kind| self.of_kind(kind) < FEWEST_OF_A_KIND) {
+            gaps.push(format!("{} is {kind} only {} times", form.name, self.of_kind(kind)));
         }
         gaps
     }

@@ -4,21 +4,29 @@
 use std::collections::{BTreeMap, BTreeSet};
 use tinplateau::Refusal;
 
-/// A call on shared bits with a full list of words, n(n − 1) for each bit, which answers how many it used.
-type Maker = fn(q: u16, bits: &[u16], words: &[u16], out: &mut [u16]) -> Result<usize, Refusal>;
+/// A call on shared bits with the words from a start on, n(n − 1) for each bit, which answers the place after them.
+type Maker = fn(q: u16, bits: &[u16], words: &[u16], start: usize, out: &mut [u16]) -> Result<usize, Refusal>;
 
-fn convert_bit(q: u16, bits: &[u16], words: &[u16], out: &mut [u16]) -> Result<usize, Refusal> {
-    tinplateau::convert_bit(out.len(), q, bits, words, out)
+/// The words before a full list, of which there are as many as the start says, and behind it. They are the same in all calls.
+type Around = [&'static [u16]; 2];
+
+const ALONE: Around = [&[], &[]];
+
+/// Some of these are below q and some are not.
+const AROUND: Around = [&[1, u16::MAX, 2, 5, 0], &[2, 17, 1, 0, u16::MAX]];
+
+fn convert_bit(q: u16, bits: &[u16], words: &[u16], start: usize, out: &mut [u16]) -> Result<usize, Refusal> {
+    tinplateau::convert_bit(out.len(), q, bits, words, start, out)
 }
 
 /// A sample with k 1: the shares of x, then those of y.
-fn sample(q: u16, bits: &[u16], words: &[u16], out: &mut [u16]) -> Result<usize, Refusal> {
+fn sample(q: u16, bits: &[u16], words: &[u16], start: usize, out: &mut [u16]) -> Result<usize, Refusal> {
     let (x, y) = bits.split_at(out.len());
-    tinplateau::sample(out.len(), 1, q, x, y, words, out, &mut [0; 16])
+    tinplateau::sample(out.len(), 1, q, x, y, words, start, out, &mut [0; 16])
 }
 
-/// A polynomial of two coefficients with k 1: the shares of x of both, then those of y.
-fn polynomial(q: u16, bits: &[u16], words: &[u16], out: &mut [u16]) -> Result<usize, Refusal> {
+/// A polynomial of two coefficients with k 1: the shares of x of both, then those of y. It starts at word 0.
+fn polynomial(q: u16, bits: &[u16], words: &[u16], _: usize, out: &mut [u16]) -> Result<usize, Refusal> {
     let (x, y) = bits.split_at(out.len());
     tinplateau::sample_polynomial(out.len() / 2, 1, q, 2, x, y, words, out, &mut [0; 16])
 }
@@ -45,30 +53,31 @@ fn others(n: usize, coefficients: usize) -> Vec<Vec<usize>> {
     chosen
 }
 
-/// For each list of places seen, how often each value of the shares there occurs, of so many coefficients. The values of several shares are
-/// read as one number to the base q.
-fn counts(make: Maker, q: u16, n: usize, coefficients: usize, bits: &[u16], seen: &[Vec<usize>]) -> Vec<Vec<usize>> {
+/// For each list of places seen, how often each value of the shares there occurs, of so many coefficients, over all full lists of words between
+/// those around. The values of several shares are read as one number to the base q.
+fn counts(make: Maker, q: u16, n: usize, coefficients: usize, bits: &[u16], around: Around, seen: &[Vec<usize>]) -> Vec<Vec<usize>> {
     let mut counts: Vec<Vec<usize>> = seen.iter().map(|places| vec![0; (q as usize).pow(places.len() as u32)]).collect();
-    let (mut words, mut out) = (vec![0; bits.len() * (n - 1)], vec![0; coefficients * n]);
+    let (start, end) = (around[0].len(), around[0].len() + bits.len() * (n - 1));
+    let (mut words, mut out) = ([around[0], &vec![0; end - start], around[1]].concat(), vec![0; coefficients * n]);
     loop {
-        assert_eq!(make(q, bits, &words, &mut out), Ok(words.len()), "bits {bits:?}, words {words:?}");
+        assert_eq!(make(q, bits, &words, start, &mut out), Ok(end), "bits {bits:?}, words {words:?}");
         for (places, counts) in seen.iter().zip(&mut counts) {
             counts[places.iter().fold(0, |number, place| number * q as usize + out[*place] as usize)] += 1;
         }
-        if !advance(&mut words, q) {
+        if !advance(&mut words[start..end], q) {
             return counts;
         }
     }
 }
 
 /// Whether every value occurs equally often for every input, which is so many bits of n shares each, for so many coefficients.
-fn is_even(name: &str, make: Maker, [bits, coefficients]: [usize; 2], n: usize, q: u16) -> bool {
+fn is_even(name: &str, make: Maker, around: Around, [bits, coefficients]: [usize; 2], n: usize, q: u16) -> bool {
     let (mut input, seen) = (vec![0; bits * n], others(n, coefficients));
     let each = (q as usize).pow(((input.len() - coefficients) * (n - 1)) as u32);
     loop {
-        let found = counts(make, q, n, coefficients, &input, &seen);
+        let found = counts(make, q, n, coefficients, &input, around, &seen);
         if found.iter().flatten().any(|count| *count != each) {
-            eprintln!("{name} n {n} q {q}, input {input:?}: {found:?}, and not {each} each");
+            eprintln!("{name} n {n} q {q} start {}, input {input:?}: {found:?}, and not {each} each", around[0].len());
             return false;
         }
         if !advance(&mut input, 2) {
@@ -76,7 +85,8 @@ fn is_even(name: &str, make: Maker, [bits, coefficients]: [usize; 2], n: usize, 
         }
     }
     let share = if coefficients > 1 { "share of each coefficient" } else { "share" };
-    println!("  {name} n {n} q {q}: {each} times each, whichever {share} is left out, for each of {} inputs", 1 << input.len());
+    let from = if around == ALONE { String::new() } else { format!(" start {}, words around", around[0].len()) };
+    println!("  {name} n {n} q {q}{from}: {each} times each, whichever {share} is left out, for each of {} inputs", 1 << input.len());
     true
 }
 
@@ -86,7 +96,7 @@ fn all_shares_tell() -> bool {
     let (n, q, mut input) = (2, 3, [0; 8]);
     loop {
         let values = [0, n].map(|t| (q + (input[t] ^ input[t + 1]) - (input[t + 4] ^ input[t + 5])) % q);
-        spreads.entry(counts(polynomial, q, n, 2, &input, &[vec![0, 1, 2, 3]])).or_default().insert(values.to_vec());
+        spreads.entry(counts(polynomial, q, n, 2, &input, ALONE, &[vec![0, 1, 2, 3]])).or_default().insert(values.to_vec());
         if !advance(&mut input, 2) {
             break;
         }
@@ -111,13 +121,13 @@ fn bit_by_habit(bits: &[u16], word: u16) -> [i32; 2] {
 }
 
 /// The sample with n 2 and k 1 by that habit. Its shares still add up.
-fn sample_by_habit(q: u16, bits: &[u16], words: &[u16], out: &mut [u16]) -> Result<usize, Refusal> {
-    let (x, y) = (bit_by_habit(&bits[..2], words[0]), bit_by_habit(&bits[2..], words[2]));
+fn sample_by_habit(q: u16, bits: &[u16], words: &[u16], start: usize, out: &mut [u16]) -> Result<usize, Refusal> {
+    let (x, y) = (bit_by_habit(&bits[..2], words[start]), bit_by_habit(&bits[2..], words[start + 2]));
     for (share, (x, y)) in out.iter_mut().zip(x.iter().zip(y)) {
         *share = (x - y).rem_euclid(q as i32) as u16;
     }
     assert_eq!((out[0] + out[1]) % q, (q + (bits[0] ^ bits[1]) - (bits[2] ^ bits[3])) % q, "bits {bits:?}, words {words:?}");
-    Ok(words.len())
+    Ok(start + 4)
 }
 
 /// How often the habit gives a first share, by hand. A bit's first share is b1 where b2 is 0. Else it is 1 - b1 + 2r, which takes every value
@@ -166,7 +176,7 @@ impl Way {
         let mut sharings_by_count: BTreeMap<usize, usize> = BTreeMap::new();
         let mut right = true;
         for bits in sharings(sample) {
-            let count = counts(self.make, Q, 2, 1, &bits, &[vec![0]])[0][seen as usize];
+            let count = counts(self.make, Q, 2, 1, &bits, ALONE, &[vec![0]])[0][seen as usize];
             *sharings_by_count.entry(count).or_default() += 1;
             right &= count == (self.times)(seen, bits);
         }
@@ -187,22 +197,19 @@ fn first_share_tells_nothing() -> bool {
     [7, 1].map(|seen| WAYS.map(|way| way.is_right(seen))) == [[true; 2]; 2]
 }
 
-/// The one-bit call, and the sampler and polynomials with k 1.
+/// The one-bit call, and the sampler and polynomials with k 1, each with these n and q. The larger counts take long, and are made without words
+/// around.
 pub fn holds() -> bool {
     println!("secrecy: how often each value of the other shares occurs over all word lists");
-    let right = [
-        is_even("tp_convert_bit", convert_bit, [1, 1], 2, 3),
-        is_even("tp_convert_bit", convert_bit, [1, 1], 2, 4),
-        is_even("tp_convert_bit", convert_bit, [1, 1], 2, 5),
-        is_even("tp_convert_bit", convert_bit, [1, 1], 3, 3),
-        is_even("tp_sample k 1", sample, [2, 1], 2, 3),
-        is_even("tp_sample k 1", sample, [2, 1], 2, 4),
-        is_even("tp_sample k 1", sample, [2, 1], 2, 5),
-        is_even("tp_sample k 1", sample, [2, 1], 2, Q),
-        is_even("tp_sample k 1", sample, [2, 1], 3, 3),
-        is_even("tp_sample_polynomial k 1 m 2", polynomial, [4, 2], 2, 3),
-        all_shares_tell(),
-        first_share_tells_nothing(),
-    ];
-    right.iter().all(|right| *right)
+    let bit = |around, n, q| is_even("tp_convert_bit", convert_bit, around, [1, 1], n, q);
+    let one = |around, n, q| is_even("tp_sample k 1", sample, around, [2, 1], n, q);
+    let two = |around, n, q| is_even("tp_sample_polynomial k 1 m 2", polynomial, around, [4, 2], n, q);
+    let small = [ALONE, AROUND].map(|around| {
+        let bits = [(2, 3), (2, 4), (2, 5), (3, 3)].map(|(n, q)| bit(around, n, q));
+        let samples = [(2, 3), (2, 4), (2, 5)].map(|(n, q)| one(around, n, q));
+        bits == [true; 4] && samples == [true; 3]
+    });
+    let large = [one(ALONE, 2, Q), one(ALONE, 3, 3), two(ALONE, 2, 3)];
+    let told = [all_shares_tell(), first_share_tells_nothing()];
+    small == [true; 2] && large == [true; 3] && told == [true; 2]
 }
