@@ -18,6 +18,17 @@ struct mask_case {
     list shares;
 };
 
+/* A call of tp_convert_bit and what it is to answer. */
+struct bit_case {
+    int line;
+    size_t n;
+    uint16_t q;
+    list bits, words;
+    size_t out;
+    tp_answer answer;
+    list shares;
+};
+
 /* A call of tp_sample, or of tp_sample_polynomial, and what it is to answer. */
 struct sample_case {
     int line;
@@ -29,10 +40,20 @@ struct sample_case {
     list shares;
 };
 
+/* Where a call starts in the word list, in which so many others stand before the words of the case. What its answer says of a position in the
+ * list is for no others. */
+typedef struct {
+    size_t others, start;
+} origin;
+
+#define FRONT ((origin){0, 0})
+#define WITHIN ((origin){SPARE, SPARE})
+
 /* Make the call, with spare places behind what it uses, and check the answer, every buffer, and the shares if they are given. The shares
- * that an accepted call makes are copied. */
+ * that an accepted call makes are copied. A call that starts somewhere answers where the next one may start. */
 void mask(const struct mask_case *c, size_t spare, uint16_t shares[SHARES]);
-void sample(const struct sample_case *c, size_t spare, uint16_t shares[SHARES]);
+size_t convert_bit(const struct bit_case *c, origin from, size_t spare, uint16_t shares[SHARES]);
+size_t sample(const struct sample_case *c, origin from, size_t spare, uint16_t shares[SHARES]);
 void sample_polynomial(size_t m, const struct sample_case *c, size_t spare, uint16_t *shares);
 
 /* The shares begin with those expected. */
@@ -44,6 +65,7 @@ void draw(uint16_t *numbers, size_t count, uint32_t bound);
 void masking_cases(void);
 void conversion_cases(void);
 void sampler_cases(void);
+void start_cases(void);
 void polynomial_cases(void);
 void lesson_cases(void);
 void size_cases(void);

@@ -1,15 +1,15 @@
 /* One call: count tp_sample 1 n k q input, or count tp_sample_polynomial m n k q input. Input 0 is all zeros, 1 all largest values, and another
- * number a seed. */
+ * number a seed. A sample starts behind words of any value. */
 #include "seeded.h"
 #include "tinplateau.h"
 
-#include <stdio.h>
+#include <stdbool.h>
 #include <stdlib.h>
 #include <string.h>
 
-enum { SHARES = 8, ROWS = 32, SAMPLE_WORDS = ROWS * SHARES * (SHARES - 1), MOST = 3 };
+enum { SHARES = 8, ROWS = 32, SAMPLE_WORDS = ROWS * SHARES * (SHARES - 1), MOST = 3, START = 5 };
 
-static uint16_t x[MOST * SHARES], y[MOST * SHARES], words[MOST * SAMPLE_WORDS], out[MOST * SHARES], work[ROWS * SHARES];
+static uint16_t x[MOST * SHARES], y[MOST * SHARES], words[START + MOST * SAMPLE_WORDS], out[MOST * SHARES], work[ROWS * SHARES];
 
 static void make(uint16_t *list, size_t len, uint32_t bound, unsigned long input)
 {
@@ -33,9 +33,10 @@ int main(int argc, char **argv)
         return EXIT_FAILURE;
     make(x, shares, 1u << k, input);
     make(y, shares, 1u << k, input);
-    make(words, used, q, input);
-    tp_answer answer = strcmp(argv[1], "tp_sample") == 0
-                           ? tp_sample(n, k, q, x, shares, y, shares, words, used, out, shares, work, 2 * k * n)
-                           : tp_sample_polynomial(n, k, q, m, x, shares, y, shares, words, used, out, shares, work, 2 * k * n);
-    return answer.code == 0 && answer.value == used ? EXIT_SUCCESS : EXIT_FAILURE;
+    make(words, START, 1u << 16, input);
+    make(words + START, used, q, input);
+    bool one = strcmp(argv[1], "tp_sample") == 0;
+    tp_answer answer = one ? tp_sample(n, k, q, x, shares, y, shares, words, START + used, START, out, shares, work, 2 * k * n)
+                           : tp_sample_polynomial(n, k, q, m, x, shares, y, shares, words + START, used, out, shares, work, 2 * k * n);
+    return answer.code == 0 && answer.value == used + (one ? START : 0) ? EXIT_SUCCESS : EXIT_FAILURE;
 }

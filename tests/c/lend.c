@@ -73,22 +73,35 @@ static lent guarded(size_t size)
     return (lent){.block = block, .at = block + GUARD_SIZE};
 }
 
-lent lend_bytes(const void *content, size_t given, size_t size)
+static lent lend_part(const void *content, size_t skipped, size_t given, size_t size)
 {
     lent buffer = pass == EXACT ? exact(size) : guarded(size);
+    buffer.skipped = skipped;
     buffer.given = given;
     buffer.size = size;
-    copy(buffer.at, content, given);
     if (pass == GUARDED)
-        fill(buffer.at, given, size);
+        fill(buffer.at, 0, size);
+    if (given > 0)
+        copy((unsigned char *)buffer.at + skipped, content, given);
     buffer.before = allocate(size + 1);
     copy(buffer.before, buffer.at, size);
     return buffer;
 }
 
+lent lend_bytes(const void *content, size_t given, size_t size)
+{
+    return lend_part(content, 0, given, size);
+}
+
+lent lend_within(size_t others, list words, size_t spare)
+{
+    size_t size = sizeof *words.at;
+    return lend_part(words.at, others * size, words.len * size, (others + words.len + spare) * size);
+}
+
 lent lend(list words, size_t spare)
 {
-    return lend_bytes(words.at, words.len * sizeof *words.at, (words.len + spare) * sizeof *words.at);
+    return lend_within(0, words, spare);
 }
 
 lent lend_room(size_t words)
@@ -104,7 +117,9 @@ bool equal(const void *a, const void *b, size_t size)
 /* What was left undefined is not compared. */
 static bool is_kept(const lent *buffer, size_t from)
 {
-    size_t to = pass == EXACT ? buffer->given : buffer->size;
+    size_t to = pass == EXACT ? buffer->skipped + buffer->given : buffer->size;
+    if (pass == EXACT && from < buffer->skipped)
+        from = buffer->skipped;
     return to <= from || equal((const unsigned char *)buffer->at + from, buffer->before + from, to - from);
 }
 

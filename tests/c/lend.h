@@ -35,11 +35,12 @@ typedef struct {
 #define LIST(...) {(const uint16_t[]){__VA_ARGS__}, sizeof((const uint16_t[]){__VA_ARGS__}) / sizeof(uint16_t)}
 #define NONE {NULL, 0}
 
-/* The first given bytes are the caller's. The others, up to size, are content that no call may read. */
+/* The given bytes behind those skipped are the caller's. The others, up to size, are content that no call may read. */
 typedef struct {
     unsigned char *block;
     unsigned char *before;
     void *at;
+    size_t skipped;
     size_t given;
     size_t size;
 } lent;
@@ -47,6 +48,8 @@ typedef struct {
 lent lend_bytes(const void *content, size_t given, size_t size);
 /* A list of words, and spare words behind it. */
 lent lend(list words, size_t spare);
+/* The same with others before it. */
+lent lend_within(size_t others, list words, size_t spare);
 /* Words for a call to write. */
 lent lend_room(size_t words);
 

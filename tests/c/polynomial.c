@@ -133,7 +133,7 @@ static void sample_each(size_t n, size_t k, uint16_t q, size_t m)
     draw(words, m * used, q);
     for (size_t t = 0; t < m; t++) {
         struct sample_case c = CASE(n, k, q, {x + t * n, n}, {y + t * n, n}, {words + t * used, used}, n, 2 * k * n, {0, used}, NONE);
-        sample(&c, 0, each + t * n);
+        sample(&c, FRONT, 0, each + t * n);
     }
     const struct polynomial_case all = POLYNOMIAL(m, n, k, q, {x, m * n}, {y, m * n}, {words, m * used}, m * n, 2 * k * n, {0, m * used},
                                                   {each, m * n});

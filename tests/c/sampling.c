@@ -1,27 +1,30 @@
 /* The conversion of a bit, and the sampler. */
 #include "client.h"
 
-/* A call of tp_convert_bit and what it is to answer. */
-struct bit_case {
-    int line;
-    size_t n;
-    uint16_t q;
-    list bits, words;
-    size_t out;
-    tp_answer answer;
-    list shares;
-};
-
-static void convert_bit(const struct bit_case *c, size_t spare, uint16_t shares[SHARES])
+/* An end and the position of a word count from the front of the list. */
+static void check_answer(tp_answer answer, tp_answer expected, origin from)
 {
-    lent bits = lend(c->bits, 0), words = lend(c->words, spare), out = lend_room(c->out + spare);
-    tp_answer answer = tp_convert_bit(c->n, c->q, WORDS(bits), WORDS(words), WORDS(out));
-    CHECK(answer.code == c->answer.code);
-    CHECK(answer.value == c->answer.value);
+    bool counts_words = expected.code == TP_ACCEPTED || expected.code == TP_WORD_RANGE;
+    CHECK(answer.code == expected.code);
+    CHECK(answer.value == expected.value + (counts_words ? from.others : 0));
+}
+
+/* Whether all that is asked before the start is unfit. */
+static bool ends_before_start(tp_answer expected)
+{
+    return expected.code != TP_ACCEPTED && expected.code < TP_WORD_COUNT;
+}
+
+size_t convert_bit(const struct bit_case *c, origin from, size_t spare, uint16_t shares[SHARES])
+{
+    lent bits = lend(c->bits, 0), words = lend_within(from.others, c->words, spare), out = lend_room(c->out + spare);
+    tp_answer answer = tp_convert_bit(c->n, c->q, WORDS(bits), WORDS(words), from.start, WORDS(out));
+    check_answer(answer, c->answer, from);
     take_back_kept(bits);
     take_back_kept(words);
     take_back_words(out, shares, c->answer.code == 0 ? c->n : 0);
     check_shares(shares, c->shares);
+    return answer.value;
 }
 
 static void convert_all(const struct bit_case *cases, size_t count)
@@ -29,9 +32,13 @@ static void convert_all(const struct bit_case *cases, size_t count)
     for (size_t i = 0; i < count; i++) {
         uint16_t shares[SHARES];
         BEGIN_CASE(&cases[i]);
-        convert_bit(&cases[i], 0, shares);
-        if (cases[i].answer.code == 0)
-            convert_bit(&cases[i], SPARE, shares);
+        convert_bit(&cases[i], FRONT, 0, shares);
+        convert_bit(&cases[i], WITHIN, 0, shares);
+        if (cases[i].answer.code == 0) {
+            convert_bit(&cases[i], FRONT, SPARE, shares);
+            convert_bit(&cases[i], WITHIN, SPARE, shares);
+        } else if (ends_before_start(cases[i].answer))
+            convert_bit(&cases[i], (origin){0, SIZE_MAX}, 0, shares);
     }
 }
 
@@ -80,32 +87,33 @@ void conversion_cases(void)
     bit_refused();
 }
 
-/* With no number of coefficients it is one sample. */
-static void call_sampler(const size_t *m, const struct sample_case *c, size_t spare, uint16_t *shares)
+/* With no number of coefficients it is one sample. A polynomial starts at the front. */
+static size_t call_sampler(const size_t *m, const struct sample_case *c, origin from, size_t spare, uint16_t *shares)
 {
     static const uint16_t zeros[2 * BITS * SHARES];
     bool accepted = c->answer.code == 0;
-    lent x = lend(c->x, 0), y = lend(c->y, 0), words = lend(c->words, spare), out = lend_room(c->out + spare), work = lend_room(c->work + spare);
-    tp_answer answer = m == NULL ? tp_sample(c->n, c->k, c->q, WORDS(x), WORDS(y), WORDS(words), WORDS(out), WORDS(work))
+    lent x = lend(c->x, 0), y = lend(c->y, 0), words = lend_within(from.others, c->words, spare);
+    lent out = lend_room(c->out + spare), work = lend_room(c->work + spare);
+    tp_answer answer = m == NULL ? tp_sample(c->n, c->k, c->q, WORDS(x), WORDS(y), WORDS(words), from.start, WORDS(out), WORDS(work))
                                  : tp_sample_polynomial(c->n, c->k, c->q, *m, WORDS(x), WORDS(y), WORDS(words), WORDS(out), WORDS(work));
-    CHECK(answer.code == c->answer.code);
-    CHECK(answer.value == c->answer.value);
+    check_answer(answer, c->answer, from);
     take_back_kept(x);
     take_back_kept(y);
     take_back_kept(words);
     take_back_words(out, shares, accepted ? (m == NULL ? 1 : *m) * c->n : 0);
     take_back(work, zeros, accepted ? 2 * c->k * c->n * sizeof *zeros : 0);
     check_shares(shares, c->shares);
+    return answer.value;
 }
 
-void sample(const struct sample_case *c, size_t spare, uint16_t shares[SHARES])
+size_t sample(const struct sample_case *c, origin from, size_t spare, uint16_t shares[SHARES])
 {
-    call_sampler(NULL, c, spare, shares);
+    return call_sampler(NULL, c, from, spare, shares);
 }
 
 void sample_polynomial(size_t m, const struct sample_case *c, size_t spare, uint16_t *shares)
 {
-    call_sampler(&m, c, spare, shares);
+    call_sampler(&m, c, FRONT, spare, shares);
 }
 
 /* Each is a polynomial of one coefficient too. */
@@ -114,12 +122,15 @@ static void sample_all(const struct sample_case *cases, size_t count)
     for (size_t i = 0; i < count; i++) {
         uint16_t shares[SHARES];
         BEGIN_CASE(&cases[i]);
-        sample(&cases[i], 0, shares);
+        sample(&cases[i], FRONT, 0, shares);
+        sample(&cases[i], WITHIN, 0, shares);
         sample_polynomial(1, &cases[i], 0, shares);
         if (cases[i].answer.code == 0) {
-            sample(&cases[i], SPARE, shares);
+            sample(&cases[i], FRONT, SPARE, shares);
+            sample(&cases[i], WITHIN, SPARE, shares);
             sample_polynomial(1, &cases[i], SPARE, shares);
-        }
+        } else if (ends_before_start(cases[i].answer))
+            sample(&cases[i], (origin){0, SIZE_MAX}, 0, shares);
     }
 }
 

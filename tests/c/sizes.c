@@ -7,19 +7,22 @@
 static const uint16_t zeros[TP_POLYNOMIAL_WORDS(TP_MAX_SHARES, TP_MAX_BITS, TP_MAX_COEFFICIENTS)];
 
 /* A sample of zeros. */
-static void sample_zeros(size_t n, size_t k, size_t words, size_t work, tp_answer answer)
+static void sample_zeros(size_t n, size_t k, size_t words, size_t start, size_t work, tp_answer answer)
 {
     uint16_t shares[SHARES];
-    sample(&(struct sample_case)CASE(n, k, 65535, {zeros, n}, {zeros, n}, {zeros, words}, n, work, answer, NONE), 0, shares);
+    struct sample_case c = CASE(n, k, 65535, {zeros, n}, {zeros, n}, {zeros, words}, n, work, answer, NONE);
+    sample(&c, (origin){0, start}, 0, shares);
 }
 
 static void sample_sizes(size_t n, size_t k)
 {
     size_t words = TP_SAMPLE_WORDS(n, k), work = TP_SAMPLE_WORK(n, k);
     CHECK(words <= TP_MAX_WORDS);
-    sample_zeros(n, k, words, work, (tp_answer){TP_ACCEPTED, words});
-    sample_zeros(n, k, words - 1, work, (tp_answer){TP_WORD_COUNT, 0});
-    sample_zeros(n, k, words, work - 1, (tp_answer){TP_WORK_ROOM, 0});
+    for (size_t start = 0; start <= words; start += words) {
+        sample_zeros(n, k, start + words, start, work, (tp_answer){TP_ACCEPTED, start + words});
+        sample_zeros(n, k, start + words - 1, start, work, (tp_answer){TP_WORD_COUNT, 0});
+        sample_zeros(n, k, start + words, start, work - 1, (tp_answer){TP_WORK_ROOM, 0});
+    }
 }
 
 /* A polynomial of zeros. */
@@ -50,10 +53,13 @@ static void polynomial_unfit(size_t m)
 static void convert_sizes(size_t n)
 {
     uint16_t out[TP_MAX_SHARES];
-    tp_answer enough = tp_convert_bit(n, 3, zeros, n, zeros, TP_BIT_WORDS(n), out, n);
-    tp_answer fewer = tp_convert_bit(n, 3, zeros, n, zeros, TP_BIT_WORDS(n) - 1, out, n);
-    CHECK(enough.code == TP_ACCEPTED && enough.value == TP_BIT_WORDS(n));
-    CHECK(fewer.code == TP_WORD_COUNT);
+    for (size_t start = 0; start <= TP_BIT_WORDS(n); start++) {
+        size_t end = start + TP_BIT_WORDS(n);
+        tp_answer enough = tp_convert_bit(n, 3, zeros, n, zeros, end, start, out, n);
+        tp_answer fewer = tp_convert_bit(n, 3, zeros, n, zeros, end - 1, start, out, n);
+        CHECK(enough.code == TP_ACCEPTED && enough.value == end);
+        CHECK(fewer.code == TP_WORD_COUNT && fewer.value == 0);
+    }
 }
 
 static void all_sizes(void)
@@ -74,10 +80,10 @@ static void limits(void)
     CHECK(TP_SAMPLE_WORDS(TP_MAX_SHARES, TP_MAX_BITS) == TP_MAX_WORDS);
     CHECK(TP_BIT_WORDS(1 + 2) == 6 && TP_SAMPLE_WORDS(1 + 1, 1 + 2) == 12 && TP_SAMPLE_WORK(1 + 1, 1 + 2) == 12 && TP_TEXT_ROOM(1 + 1) == 51);
     CHECK(TP_POLYNOMIAL_SHARES(1 + 1, 1 + 2) == 6 && TP_POLYNOMIAL_WORDS(1 + 1, 1 + 2, 1 + 1) == 24);
-    sample_zeros(TP_MIN_SHARES - 1, 1, TP_MAX_WORDS, work, (tp_answer){TP_SHARE_COUNT, 0});
-    sample_zeros(TP_MAX_SHARES + 1, 1, TP_MAX_WORDS, work, (tp_answer){TP_SHARE_COUNT, 0});
-    sample_zeros(2, TP_MIN_BITS - 1, TP_MAX_WORDS, work, (tp_answer){TP_STRING_LENGTH, 0});
-    sample_zeros(2, TP_MAX_BITS + 1, TP_MAX_WORDS, work, (tp_answer){TP_STRING_LENGTH, 0});
+    sample_zeros(TP_MIN_SHARES - 1, 1, TP_MAX_WORDS, 0, work, (tp_answer){TP_SHARE_COUNT, 0});
+    sample_zeros(TP_MAX_SHARES + 1, 1, TP_MAX_WORDS, 0, work, (tp_answer){TP_SHARE_COUNT, 0});
+    sample_zeros(2, TP_MIN_BITS - 1, TP_MAX_WORDS, 0, work, (tp_answer){TP_STRING_LENGTH, 0});
+    sample_zeros(2, TP_MAX_BITS + 1, TP_MAX_WORDS, 0, work, (tp_answer){TP_STRING_LENGTH, 0});
     polynomial_unfit(TP_MIN_COEFFICIENTS - 1);
     polynomial_unfit(TP_MAX_COEFFICIENTS + 1);
 }
