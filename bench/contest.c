@@ -13,8 +13,9 @@ enum { COMPILERS = 1 };
 
 const point points[POINTS] = {{2, 2, 3329}, {3, 3, 3329}, {4, 8, 12289}, {8, 16, 12289}};
 
-#define CALLS_SAMPLE(kind, title, name) {kind, title, #name, name, NULL}
-#define CALLS_POLYNOMIAL(kind, title, name) {kind, title, #name, NULL, name}
+#define CALLS_SAMPLE(kind, title, name) {kind, title, #name, name, NULL, NULL}
+#define CALLS_STARTING(kind, title, name) {kind, title, #name, NULL, name, NULL}
+#define CALLS_POLYNOMIAL(kind, title, name) {kind, title, #name, NULL, NULL, name}
 
 const contest contests[CONTESTS] = {
     {
@@ -29,7 +30,7 @@ const contest contests[CONTESTS] = {
         .count = 1 + 2 * COMPILERS,
         .contestants =
             {
-                CALLS_SAMPLE(LIBRARY, "library", tp_sample),
+                CALLS_STARTING(LIBRARY, "library", tp_sample),
                 CALLS_SAMPLE(PLAIN, "plain gcc", plain_sample_gcc),
 #ifdef WITH_CLANG
                 CALLS_SAMPLE(PLAIN, "plain clang", plain_sample_clang),
@@ -53,7 +54,7 @@ const contest contests[CONTESTS] = {
         .contestants =
             {
                 CALLS_POLYNOMIAL(LIBRARY, "library", tp_sample_polynomial),
-                CALLS_SAMPLE(SINGLE, "single calls", tp_sample),
+                CALLS_STARTING(SINGLE, "single calls", tp_sample),
                 CALLS_POLYNOMIAL(CAREFUL, "careful gcc", careful_polynomial_gcc),
 #ifdef WITH_CLANG
                 CALLS_POLYNOMIAL(CAREFUL, "careful clang", careful_polynomial_clang),

@@ -18,17 +18,21 @@ enum {
 
 typedef tp_answer sampler(size_t n, size_t k, uint16_t q, const uint16_t *x, size_t x_len, const uint16_t *y, size_t y_len,
                           const uint16_t *words, size_t words_len, uint16_t *out, size_t out_len, uint16_t *work, size_t work_len);
+typedef tp_answer starting_sampler(size_t n, size_t k, uint16_t q, const uint16_t *x, size_t x_len, const uint16_t *y, size_t y_len,
+                                   const uint16_t *words, size_t words_len, size_t start, uint16_t *out, size_t out_len, uint16_t *work,
+                                   size_t work_len);
 typedef tp_answer polynomial_sampler(size_t n, size_t k, uint16_t q, size_t m, const uint16_t *x, size_t x_len, const uint16_t *y,
                                      size_t y_len, const uint16_t *words, size_t words_len, uint16_t *out, size_t out_len, uint16_t *work,
                                      size_t work_len);
 
 typedef enum { LIBRARY, SINGLE, PLAIN, CAREFUL } kind;
 
-/* Either `polynomial` is called once, or `sample` for each coefficient. `name` is the function's. */
+/* Either `polynomial` is called once, or `sample` or `starting` for each coefficient. `name` is the function's. */
 typedef struct {
     kind kind;
     const char *title, *name;
     sampler *sample;
+    starting_sampler *starting;
     polynomial_sampler *polynomial;
 } contestant;
 
@@ -96,8 +100,11 @@ static inline tp_answer run_call(const contestant *who, const call *c, uint16_t 
     if (who->polynomial != NULL)
         return who->polynomial(n, k, c->p.q, c->m, x, c->x_len, y, c->y_len, words, c->words_len, out, c->out_len, work, c->work_len);
     for (size_t left = c->m;;) {
-        tp_answer one = who->sample(n, k, c->p.q, x, c->x_len - c->other_shares, y, c->y_len - c->other_shares, words,
-                                    c->words_len - c->other_words, out, c->out_len - c->other_shares, work, c->work_len);
+        tp_answer one = who->starting != NULL
+                            ? who->starting(n, k, c->p.q, x, c->x_len - c->other_shares, y, c->y_len - c->other_shares, words,
+                                            c->words_len - c->other_words, 0, out, c->out_len - c->other_shares, work, c->work_len)
+                            : who->sample(n, k, c->p.q, x, c->x_len - c->other_shares, y, c->y_len - c->other_shares, words,
+                                          c->words_len - c->other_words, out, c->out_len - c->other_shares, work, c->work_len);
         left--;
         if (left == 0 || one.code != 0)
             return (tp_answer){one.code, one.value + (one.code == 0 ? c->other_words : 0)};
