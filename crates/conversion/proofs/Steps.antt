@@ -17,6 +17,12 @@ use Rattle.conversion.specs.ZeroSharing.{zeroSharing, refresh-adds, refr
 use Rattle.conversion.specs.Laws.{lessTwice-zero, lessTwice-one, extend-below, extend-from, xorShare-cong, convert-reduced, convertBit-local}
 use Rattle.conversion.specs.Arrays.{Holds}
 
+-- ---- an array that is filled from the front
+
+pub holds-next : (i v : ℕ) (f : ℕ → ℕ) (a : List ℕ) → i < 8 → v ≡ f i → Holds i f a → Holds (i + 1) f (set a i v)
+holds-next i v f a l e A =
+    record { eight = length-set a i v ∙ A .eight; same = λ j m. set-agrees a i v f (omega (arith, A .eight)) e j (λ d. A .same j (omega arith)) }
+
 -- ---- a difference, less twice its product with a bit
 
 pub lessTwice-cswap : (q a r b : ℕ) → 0 < q → b < 2 → lessTwice q b (sub q a r) ≡ cswapSub q b a r

@@ -11,7 +11,6 @@ ghost use lib.ListN.{length};
 ghost use Rattle.residue.specs.Residue.{sub};
 ghost use Rattle.buffers.specs.Overwrite.{overwrite};
 ghost use Rattle.buffers.specs.Positions.{at, table, after, Below};
-ghost use Rattle.checks.specs.Width.{bit};
 ghost use Rattle.checks.specs.Checks.{checked};
 ghost use Rattle.checks.specs.Answers.{checkedReading, outcome};
 ghost use Rattle.conversion.specs.Conversion.{pairs, lessTwice, xorShare, bitsAt, convert, refresh, convertBit, bitWords, bitChecks, converted};
@@ -49,12 +48,16 @@ fn xor_share(a: [Word; 8], j: usize, bit: Word, q: Word, words: &[Word], start: 
     c
 }
 
-// Bit t of a share.
-fn bit(share: u16, t: usize) -> Word
+// Bit t of each share.
+fn bits_at(shares: &[u16; 8], t: usize) -> [Word; 8]
     requires { ⌜ t < 16 ⌝ }
-    ensures { λ r. ⌜ r ≡ bit share t ⌝ }
+    ensures { λ r. ⌜ Holds 8 (bitsAt (at (now (shares .entry))) t) r ⌝ }
 {
-    residue::from_u16((share >> t) & 1)
+    let mut bits: [Word; 8] = [0; 8];
+    for i in 0..8 {
+        bits[i] = residue::from_u16((shares[i] >> t) & 1);
+    }
+    bits
 }
 
 // Step 1: the list for one share.
@@ -72,40 +75,33 @@ pub struct Converted {
     pub next: usize,
 }
 
-// Steps 1 and 2: the list for the first j shares of bit t, with the j(j - 1)/2 words at `start`.
+// Steps 1 and 2: the list for the first j shares of a bit, with the j(j - 1)/2 words at `start`.
 // `&words[..]`: the words' address and length are then copied one by one, as they were stored, which is faster than both at once.
-fn convert(
-    shares: &[u16; 8],
-    t: usize,
-    j: usize,
-    q: Word,
-    words: &[Word],
-    start: usize,
-) -> Converted
-    requires { ⌜ (1 ≤ j) × (j ≤ 8) × (t < 16) × Modulus q × Drawn q start (pairs j) (now words) ⌝ }
-    ensures { λ r. ⌜ Holds j (convert q j (bitsAt (at (now (shares .entry))) t) (after start (at (now (words .entry))))) (r .list) × (r .next ≡ start + pairs j) ⌝ }
+fn convert(bits: &[Word; 8], j: usize, q: Word, words: &[Word], start: usize) -> Converted
+    requires { ⌜ (1 ≤ j) × (j ≤ 8) × Below 2 j (at (now bits)) × Modulus q × Drawn q start (pairs j) (now words) ⌝ }
+    ensures { λ r. ⌜ Holds j (convert q j (at (now (bits .entry))) (after start (at (now (words .entry))))) (r .list) × (r .next ≡ start + pairs j) ⌝ }
 {
     if j == 1 {
-        let list = one_share(bit(shares[0], t));
+        let list = one_share(bits[0]);
         return Converted {
             list: list,
             next: start,
         };
     }
     let k = j - 1;
-    let first = convert(shares, t, k, q, &words[..], start);
+    let first = convert(bits, k, q, &words[..], start);
     let a = first.list;
-    let list = xor_share(a, k, bit(shares[k], t), q, words, first.next);
+    let list = xor_share(a, k, bits[k], q, words, first.next);
     Converted {
         list: list,
         next: first.next + k,
     }
 }
 
-// Step 3: every pair of the n shares takes a word from `start` on. The shares come to stand at `to` in `out` and behind. Answers the position
-// after the last word.
+// Step 3: every pair of the n shares of the list, which is used up, takes a word from `start` on. The shares come to stand at `to` in `out` and
+// behind. Answers the position after the last word.
 fn refresh(
-    shares: [Word; 8],
+    list: &mut [Word; 8],
     n: usize,
     q: Word,
     words: &[Word],
@@ -113,18 +109,17 @@ fn refresh(
     out: &mut [Word],
     to: usize,
 ) -> usize
-    requires { ⌜ (n ≤ 8) × Modulus q × (length shares ≡ 8) × Below q n (at shares) × Drawn q start (pairs n) (now words) × (to + n ≤ length (now out)) ⌝ }
-    ensures { λ r. ⌜ (now (out .exit) ≡ overwrite (now (out .entry)) to (table n (refresh q n (after start (at (now (words .entry)))) (at shares)))) × (r ≡ start + pairs n) ⌝ }
+    requires { ⌜ (n ≤ 8) × Modulus q × (length (now list) ≡ 8) × Below q n (at (now list)) × Drawn q start (pairs n) (now words) × (to + n ≤ length (now out)) ⌝ }
+    ensures { λ r. ⌜ (now (out .exit) ≡ overwrite (now (out .entry)) to (table n (refresh q n (after start (at (now (words .entry)))) (at (now (list .entry)))))) × (r ≡ start + pairs n) ⌝ }
 {
     let modulus = residue::widen(q);
-    let mut a = shares;
     let mut p = start;
     for i in 0..n {
-        let mut own = residue::widen(a[i]);
+        let mut own = residue::widen(list[i]);
         for m in i + 1..n {
             let r = residue::widen(words[p]);
             own = residue::add(own, r, modulus);
-            a[m] = residue::narrow(residue::sub(residue::widen(a[m]), r, modulus), q);
+            list[m] = residue::narrow(residue::sub(residue::widen(list[m]), r, modulus), q);
             p += 1;
         }
         out[to + i] = residue::narrow(own, q);
@@ -147,9 +142,10 @@ pub fn convert_at(
     requires { ⌜ (2 ≤ n) × (n ≤ 8) × (t < 16) × Modulus q × Drawn q start (bitWords n) (now words) × (to + n ≤ length (now out)) ⌝ }
     ensures { λ r. ⌜ (now (out .exit) ≡ overwrite (now (out .entry)) to (table n (convertBit q n (bitsAt (at (now (shares .entry))) t) (after start (at (now (words .entry))))))) × (r ≡ start + bitWords n) ⌝ }
 {
-    let first = convert(shares, t, n, q, &words[..], start);
-    let a = first.list;
-    refresh(a, n, q, words, first.next, out, to)
+    let bits = bits_at(shares, t);
+    let mut first = convert(&bits, n, q, &words[..], start);
+    let next = first.next;
+    refresh(&mut first.list, n, q, words, next, out, to)
 }
 
 fn check_bit(n: usize, q: Word, bits: &[u16], words: &[Word], start: usize, room: usize) -> Checked

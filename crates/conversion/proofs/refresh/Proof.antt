@@ -15,44 +15,67 @@ use Rattle.conversion.proofs.refresh.Statement.{statement}
 use Rattle.conversion.proofs.refresh.Tie as tie
 
 abbrev Inv-loop2 : tie.InvT-loop2
-Inv-loop2 n q words start out to modulus a₀ p₀ i own₀ m₀ a p own m = (i < m) × (m ≤ n) × Paired q (at words) i p₀ a₀ m p a own
+Inv-loop2 list₀ n q words start out to modulus p₀ i own₀ m₀ list p own m = (i < m) × (m ≤ n) × Paired q (at words) i p₀ list₀ m p list own
 
 abbrev μ-loop2 : tie.MeasureT-loop2
-μ-loop2 n q words start out to modulus a₀ p₀ i own₀ m₀ a p own m = n - m
+μ-loop2 list₀ n q words start out to modulus p₀ i own₀ m₀ list p own m = n - m
 
 abbrev Inv-loop : tie.InvT-loop
-Inv-loop n q words start out₀ to modulus a₀ p₀ i₀ out a p i =
-    let T = refresh q n (after start (at words)) (at a₀) in
-    (i ≤ n) × (start ≤ p) × (p + pairs (n - i) ≡ start + pairs n) × Remaining q (at words) n T i p a × (out ≡ written out₀ to (table n T) i) × (length out ≡ length out₀)
+Inv-loop list₀ n q words start out₀ to modulus p₀ i₀ list out p i =
+    let T = refresh q n (after start (at words)) (at list₀) in
+    (i ≤ n) × (start ≤ p) × (p + pairs (n - i) ≡ start + pairs n) × Remaining q (at words) n T i p list × (out ≡ written out₀ to (table n T) i) × (length out ≡ length out₀)
 
 abbrev μ-loop : tie.MeasureT-loop
-μ-loop n q words start out₀ to modulus a₀ p₀ i₀ out a p i = n - i
+μ-loop list₀ n q words start out₀ to modulus p₀ i₀ list out p i = n - i
+
+-- the places where the call begins, and where a share's turn and a pair's turn do
+abbrev start : tie.In-loop Inv-loop2 μ-loop2 Inv-loop μ-loop → tie.Start Inv-loop2 μ-loop2 Inv-loop μ-loop
+start c = c .before .before .before .before .before
+
+abbrev turn : tie.At-loop2 Inv-loop2 μ-loop2 Inv-loop μ-loop → tie.In-loop Inv-loop2 μ-loop2 Inv-loop μ-loop
+turn c = c .before .before .before
+
+abbrev pair : tie.After-widen3 Inv-loop2 μ-loop2 Inv-loop μ-loop → tie.In-loop2 Inv-loop2 μ-loop2 Inv-loop μ-loop
+pair c = c .before .before
+
+abbrev loaded : tie.After-widen4 Inv-loop2 μ-loop2 Inv-loop μ-loop → tie.After-widen3 Inv-loop2 μ-loop2 Inv-loop μ-loop
+loaded c = c .before .before .before
+
+-- what is known of the shares before a share's turn
+abbrev remaining : (c : tie.In-loop Inv-loop2 μ-loop2 Inv-loop μ-loop) → let a = start c .args in Remaining (a .q) (at (a .words .now)) (a .n) (refresh (a .q) (a .n) (after (a .start) (at (a .words .now))) (at (a .list .now))) (c .before .loop .i) (c .before .loop .p) (c .before .loop .list)
+remaining c = c .before .loop .inv .3
+
+modulus : (c : tie.In-loop Inv-loop2 μ-loop2 Inv-loop μ-loop) → c .before .before .widen .result ≡ start c .args .q
+modulus c = c .before .before .widen .ensures
 
 -- the words of a share's pairs lie among those of step 3
-position : (c : tie.In-loop2 Inv-loop2 μ-loop2 Inv-loop μ-loop) → (c .before .before .before .before .before .before .before .before .args .start ≤ c .before .loop2 .p) × (c .before .loop2 .p < c .before .before .before .before .before .before .before .before .args .start + pairs (c .before .before .before .before .before .before .before .before .args .n))
+position : (c : tie.In-loop2 Inv-loop2 μ-loop2 Inv-loop μ-loop) → let a = start (turn (c .before)) .args in (a .start ≤ c .before .loop2 .p) × (c .before .loop2 .p < a .start + pairs (a .n))
 position c =
+    let a = start (turn (c .before)) .args in
+    let i = turn (c .before) .before .loop .i in
     let e = c .before .loop2 .inv .2 .position in
-    let d = pairs-step (c .before .before .before .before .before .before .before .before .args .n - c .before .before .before .before .loop .i) (c .before .before .before .before .before .before .before .before .args .n - (c .before .before .before .before .loop .i + 1)) (omega arith) in
+    let d = pairs-step (a .n - i) (a .n - (i + 1)) (omega arith) in
     (omega arith, omega arith)
 
-word : (c : tie.After-widen3 Inv-loop2 μ-loop2 Inv-loop μ-loop) → c .widen3 .result < c .before .before .before .before .before .before .before .before .before .before .args .q
+word : (c : tie.After-widen3 Inv-loop2 μ-loop2 Inv-loop μ-loop) → c .widen3 .result < start (turn (pair c .before)) .args .q
 word c =
-    let s = c .before .before .before .before .before .before .before .before .before .before in
-    let p = c .before .before .before .loop2 .p in
-    let h = position (c .before .before) in
+    let s = start (turn (pair c .before)) in
+    let p = pair c .before .loop2 .p in
+    let h = position (pair c) in
     let e : s .args .start + (p - s .args .start) ≡ p = omega arith in
-    rw (c .widen3 .ensures) (rw e at (s .pre .4 .below (p - s .args .start) (omega arith)))
+    let b : at (s .args .words .now) p < s .args .q = rw e at (s .pre .4 .below (p - s .args .start) (omega arith)) in
+    omega (arith, c .widen3 .ensures)
 
 -- the shares of a pair are below q
-own : (c : tie.At-loop2 Inv-loop2 μ-loop2 Inv-loop μ-loop) → c .loop2 .own < c .before .before .before .before .before .before .before .args .q
-own c = paired-lt _ _ _ _ _ _ _ (c .before .before .before .loop .inv .3) (c .before .before .loop-test .taken) _ _ _ _ (c .loop2 .inv .2) (c .loop2 .inv .0)
+own : (c : tie.At-loop2 Inv-loop2 μ-loop2 Inv-loop μ-loop) → c .loop2 .own < start (turn c) .args .q
+own c = paired-lt _ _ _ _ _ _ _ (remaining (turn c)) (turn c .loop-test .taken) _ _ _ _ (c .loop2 .inv .2) (c .loop2 .inv .0)
 
-other : (c : tie.In-loop2 Inv-loop2 μ-loop2 Inv-loop μ-loop) → at (c .before .loop2 .a) (c .before .loop2 .m) < c .before .before .before .before .before .before .before .before .args .q
-other c = other-lt _ _ _ _ _ _ _ (c .before .before .before .before .loop .inv .3) (c .before .before .before .loop-test .taken) _ _ _ _ (c .before .loop2 .inv .2) (c .before .loop2 .inv .0) (c .loop2-test .taken)
+other : (c : tie.In-loop2 Inv-loop2 μ-loop2 Inv-loop μ-loop) → at (c .before .loop2 .list) (c .before .loop2 .m) < start (turn (c .before)) .args .q
+other c = let t = turn (c .before) in other-lt _ _ _ _ _ _ _ (remaining t) (t .loop-test .taken) _ _ _ _ (c .before .loop2 .inv .2) (c .before .loop2 .inv .0) (c .loop2-test .taken)
 
 -- and so are the operands of the difference
-operands : (c : tie.After-widen4 Inv-loop2 μ-loop2 Inv-loop μ-loop) → (c .widen4 .result < c .before .before .before .before .before .before .before .before .before .before .before .before .args .q) × (c .before .before .widen3 .result < c .before .before .before .before .before .before .before .before .before .before .before .before .args .q)
-operands c = (rw (c .widen4 .ensures) (other (c .before .before .before .before)), word (c .before .before))
+operands : (c : tie.After-widen4 Inv-loop2 μ-loop2 Inv-loop μ-loop) → let q = start (turn (pair (loaded c) .before)) .args .q in (c .widen4 .result < q) × (loaded c .widen3 .result < q)
+operands c = (omega (arith, c .widen4 .ensures, other (pair (loaded c))), word (loaded c))
 
 widen-requires : tie.Need-widen-requires Inv-loop2 μ-loop2 Inv-loop μ-loop
 widen-requires c κs = search needs
@@ -66,8 +89,8 @@ loop-holds c =
 mul-widen : tie.Need-mul-widen Inv-loop2 μ-loop2 Inv-loop μ-loop
 mul-widen c = search needs
 
-array-read-widen : tie.Need-array-read-widen Inv-loop2 μ-loop2 Inv-loop μ-loop
-array-read-widen c = search needs
+element-copy-out-widen : tie.Need-element-copy-out-widen Inv-loop2 μ-loop2 Inv-loop μ-loop
+element-copy-out-widen c = search needs
 
 widen-requires-2 : tie.Need-widen-requires-2 Inv-loop2 μ-loop2 Inv-loop μ-loop
 widen-requires-2 c κs = search needs
@@ -76,48 +99,52 @@ add-m : tie.Need-add-m Inv-loop2 μ-loop2 Inv-loop μ-loop
 add-m c = search needs
 
 loop2-holds : tie.Need-loop2-holds Inv-loop2 μ-loop2 Inv-loop μ-loop
-loop2-holds c = (omega arith, omega arith, rw (c .widen2 .ensures) (paired-none _ _ _ _ _ _ _ (c .before .before .loop .inv .3) (c .before .loop-test .taken)))
+loop2-holds c =
+    let t = c .before .before in
+    (omega arith, omega arith, rw (c .widen2 .ensures) (paired-none _ _ _ _ _ _ _ (remaining t) (t .loop-test .taken)))
 
 mul-widen-2 : tie.Need-mul-widen-2 Inv-loop2 μ-loop2 Inv-loop μ-loop
-mul-widen-2 c = omega (arith, position c, c .before .before .before .before .before .before .before .before .pre .4 .room)
+mul-widen-2 c = omega (arith, position c, start (turn (c .before)) .pre .4 .room)
 
 shared-slice-read-widen : tie.Need-shared-slice-read-widen Inv-loop2 μ-loop2 Inv-loop μ-loop
-shared-slice-read-widen c = omega (arith, position (c .before), c .before .before .before .before .before .before .before .before .before .pre .4 .room)
+shared-slice-read-widen c = omega (arith, position (c .before), start (turn (c .before .before)) .pre .4 .room)
 
 widen-requires-3 : tie.Need-widen-requires-3 Inv-loop2 μ-loop2 Inv-loop μ-loop
 widen-requires-3 c κs = search needs
 
 add-requires : tie.Need-add-requires Inv-loop2 μ-loop2 Inv-loop μ-loop
 add-requires c κs =
-    let m : c .before .before .before .before .before .before .before .widen .result ≡ c .before .before .before .before .before .before .before .before .before .before .args .q = c .before .before .before .before .before .before .before .widen .ensures in
-    (omega (arith, own (c .before .before .before)), omega (arith, word c), omega (arith, c .before .before .before .before .before .before .before .before .before .before .pre .1 .small))
+    let t = turn (pair c .before) in
+    let m = modulus t in
+    (omega (arith, own (pair c .before)), omega (arith, word c), omega (arith, start t .pre .1 .small))
 
 mul-widen-3 : tie.Need-mul-widen-3 Inv-loop2 μ-loop2 Inv-loop μ-loop
 mul-widen-3 c = search needs
 
-array-read-widen-2 : tie.Need-array-read-widen-2 Inv-loop2 μ-loop2 Inv-loop μ-loop
-array-read-widen-2 c = search needs
+element-copy-out-widen-2 : tie.Need-element-copy-out-widen-2 Inv-loop2 μ-loop2 Inv-loop μ-loop
+element-copy-out-widen-2 c = search needs
 
 widen-requires-4 : tie.Need-widen-requires-4 Inv-loop2 μ-loop2 Inv-loop μ-loop
 widen-requires-4 c κs = search needs
 
 sub-requires : tie.Need-sub-requires Inv-loop2 μ-loop2 Inv-loop μ-loop
 sub-requires c κs =
-    let m : c .before .before .before .before .before .before .before .before .before .widen .result ≡ c .before .before .before .before .before .before .before .before .before .before .before .before .args .q = c .before .before .before .before .before .before .before .before .before .widen .ensures in
+    let t = turn (pair (loaded c) .before) in
+    let m = modulus t in
     let h = operands c in
-    (omega arith, omega arith, omega (arith, c .before .before .before .before .before .before .before .before .before .before .before .before .pre .1 .small))
+    (omega arith, omega arith, omega (arith, start t .pre .1 .small))
 
 narrow-requires : tie.Need-narrow-requires Inv-loop2 μ-loop2 Inv-loop μ-loop
-narrow-requires c κs = rw (c .sub .ensures, c .before .before .before .before .before .before .before .before .before .before .widen .ensures) (add-lt _ (omega (arith, c .before .before .before .before .before .before .before .before .before .before .before .before .before .pre .1 .large)) _ _)
+narrow-requires c κs = let t = turn (pair (loaded (c .before)) .before) in rw (c .sub .ensures, modulus t) (add-lt _ (omega (arith, start t .pre .1 .large)) _ _)
 
-mul-a : tie.Need-mul-a Inv-loop2 μ-loop2 Inv-loop μ-loop
-mul-a c = search needs
+mul-list : tie.Need-mul-list Inv-loop2 μ-loop2 Inv-loop μ-loop
+mul-list c = search needs
 
-array-write-a : tie.Need-array-write-a Inv-loop2 μ-loop2 Inv-loop μ-loop
-array-write-a c = search needs
+element-write-list : tie.Need-element-write-list Inv-loop2 μ-loop2 Inv-loop μ-loop
+element-write-list c = search needs
 
 add-p : tie.Need-add-p Inv-loop2 μ-loop2 Inv-loop μ-loop
-add-p c = omega (arith, position (c .before .before .before .before .before .before), c .before .before .before .before .before .before .before .before .before .before .before .before .before .before .pre .4 .room)
+add-p c = let d = pair (loaded (c .before .before)) in omega (arith, position d, start (turn (d .before)) .pre .4 .room)
 
 add-m-2 : tie.Need-add-m-2 Inv-loop2 μ-loop2 Inv-loop μ-loop
 add-m-2 c = search needs
@@ -126,12 +153,16 @@ loop2-less : tie.Need-loop2-less Inv-loop2 μ-loop2 Inv-loop μ-loop
 loop2-less c = search needs
 
 loop2-again : tie.Need-loop2-again Inv-loop2 μ-loop2 Inv-loop μ-loop
-loop2-again c = (
-  omega arith,
-  omega arith,
-  paired-next _ _ _ _ _ _ _ (c .before .before .before .before .before .before .before .before .before .before .loop .inv .3) (c .before .before .before .before .before .before .before .before .before .loop-test .taken) _ _ _ _ (c .before .before .before .before .before .before .before .loop2 .inv .2) (c .before .before .before .before .before .before .before .loop2 .inv .0) _ _ (omega arith) (c .before .before .before .add .ensures ∙ add-cong (c .before .before .before .before .before .before .before .before .before .before .before .widen .ensures) refl (c .before .before .before .before .widen3 .ensures))
-      (c .narrow .ensures ∙ c .before .sub .ensures ∙ sub-cong (c .before .before .before .before .before .before .before .before .before .before .before .widen .ensures) (c .before .before .widen4 .ensures) (c .before .before .before .before .widen3 .ensures)),
-)
+loop2-again c =
+    let d = loaded (c .before .before) in
+    let l = pair d .before in
+    let t = turn l in
+    let m = modulus t in (
+      omega arith,
+      omega arith,
+      paired-next _ _ _ _ _ _ _ (remaining t) (t .loop-test .taken) _ _ _ _ (l .loop2 .inv .2) (l .loop2 .inv .0) _ _ (omega arith) (c .before .before .before .before .add .ensures ∙ add-cong m refl (d .widen3 .ensures))
+          (c .narrow .ensures ∙ c .before .sub .ensures ∙ sub-cong m (c .before .before .widen4 .ensures) (d .widen3 .ensures)),
+    )
 
 narrow-requires-2 : tie.Need-narrow-requires-2 Inv-loop2 μ-loop2 Inv-loop μ-loop
 narrow-requires-2 c κs = own (c .before)
@@ -153,18 +184,19 @@ loop-less c = search needs
 
 loop-again : tie.Need-loop-again Inv-loop2 μ-loop2 Inv-loop μ-loop
 loop-again c =
-    let s = c .before .before .before .before .before .before .before .before .before .args in
-    let o = c .before .before .before .before .before .loop in
+    let t = turn (c .before .before) in
+    let s = start t .args in
+    let o = t .before .loop in
     let l = c .before .before .loop2 in
-    let f = refresh (s .q) (s .n) (after (s .start) (at (s .words .now))) (at (s .shares)) in
+    let f = refresh (s .q) (s .n) (after (s .start) (at (s .words .now))) (at (s .list .now)) in
     let e = l .inv .2 .position in
     let d = pairs-step (s .n - o .i) (s .n - (o .i + 1)) (omega arith) in
     let n : length (table (s .n) f) ≡ s .n = length-table (s .n) f in
-    let v = table-at (s .n) f (o .i) (c .before .before .before .before .loop-test .taken) ∙ share-done _ _ _ _ _ _ _ (c .before .before .before .before .before .loop .inv .3) (c .before .before .before .before .loop-test .taken) _ _ _ _ (c .before .before .loop2 .inv .2) (c .before .before .loop2 .inv .0) (c .before .loop2-test .left) (l .inv .1) ∙ sym (c .narrow2 .ensures) in (
+    let v = table-at (s .n) f (o .i) (t .loop-test .taken) ∙ share-done _ _ _ _ _ _ _ (remaining t) (t .loop-test .taken) _ _ _ _ (l .inv .2) (l .inv .0) (c .before .loop2-test .left) (l .inv .1) ∙ sym (c .narrow2 .ensures) in (
       omega arith,
       omega arith,
       omega arith,
-      remaining-next _ _ _ _ _ _ _ (c .before .before .before .before .before .loop .inv .3) (c .before .before .before .before .loop-test .taken) _ _ _ _ (c .before .before .loop2 .inv .2) (c .before .before .loop2 .inv .0) (c .before .loop2-test .left) (l .inv .1),
+      remaining-next _ _ _ _ _ _ _ (remaining t) (t .loop-test .taken) _ _ _ _ (l .inv .2) (l .inv .0) (c .before .loop2-test .left) (l .inv .1),
       written-next _ _ _ _ _ _ (o .inv .4) v (omega arith) (omega arith),
       length-set (o .out) (s .to + o .i) _ ∙ o .inv .5,
     )
@@ -178,7 +210,7 @@ returns c =
     let l = c .before .loop in
     let z : s .n - l .i ≡ 0 = omega arith in
     let e : pairs (s .n - l .i) ≡ 0 = rw z (unfold pairs in refl) in (
-      l .inv .4 ∙ written-all _ _ _ _ (omega (arith, length-table (s .n) (refresh (s .q) (s .n) (after (s .start) (at (s .words .now))) (at (s .shares))))),
+      l .inv .4 ∙ written-all _ _ _ _ (omega (arith, length-table (s .n) (refresh (s .q) (s .n) (after (s .start) (at (s .words .now))) (at (s .list .now))))),
       omega (arith, l .inv .2),
     )
 
@@ -193,7 +225,7 @@ refresh-spec =
     widen-requires
     loop-holds
     mul-widen
-    array-read-widen
+    element-copy-out-widen
     widen-requires-2
     add-m
     loop2-holds
@@ -202,12 +234,12 @@ refresh-spec =
     widen-requires-3
     add-requires
     mul-widen-3
-    array-read-widen-2
+    element-copy-out-widen-2
     widen-requires-4
     sub-requires
     narrow-requires
-    mul-a
-    array-write-a
+    mul-list
+    element-write-list
     add-p
     add-m-2
     loop2-less
