@@ -8,8 +8,8 @@
  * and that one which is not const may be written and overlaps no other list of the call.
  *
  * n is the number of shares, 2 to 8; k the number of bits in a string, 1 to 16; q the modulus; m the number of a polynomial's coefficients, 1
- * to 256; start the position in the word list of the first word that a call takes. A random word is below q, drawn evenly and apart from all
- * others, and used once. The library makes no random numbers. */
+ * to 256; start the position in the word list, from 0, of the first word that a call takes. A random word is below q, drawn evenly and apart from
+ * all others, and used once. The library makes no random numbers. */
 #ifndef TINPLATEAU_H
 #define TINPLATEAU_H
 
