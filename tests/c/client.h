@@ -40,8 +40,7 @@ struct sample_case {
     list shares;
 };
 
-/* Where a call starts in the word list, in which so many others stand before the words of the case. What its answer says of a position in the
- * list is for no others. */
+/* Where a call starts in the word list, and how many other words stand before those of the case, whose answer does not count them. */
 typedef struct {
     size_t others, start;
 } origin;

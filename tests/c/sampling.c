@@ -9,7 +9,7 @@ static void check_answer(tp_answer answer, tp_answer expected, origin from)
     CHECK(answer.value == expected.value + (counts_words ? from.others : 0));
 }
 
-/* Whether all that is asked before the start is unfit. */
+/* Whether the call is refused before its start is asked about. */
 static bool ends_before_start(tp_answer expected)
 {
     return expected.code != TP_ACCEPTED && expected.code < TP_WORD_COUNT;

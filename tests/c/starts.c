@@ -16,6 +16,12 @@ struct sample_start {
 /* A start in the list of the case. */
 #define AT(start) ((origin){0, start})
 
+static void fill(uint16_t *words, size_t len, uint16_t word)
+{
+    for (size_t i = 0; i < len; i++)
+        words[i] = word;
+}
+
 static void convert_all(const struct bit_start *cases, size_t count)
 {
     for (size_t i = 0; i < count; i++) {
@@ -84,10 +90,10 @@ static void samples_inside(void)
 
 /* Starts from which a list of len words has fewer than needed, where from 0 and from 1 on it has them. Many would fit if the sum wrapped around or
  * if the start lost its high bits, in words or in bytes. */
-#define TOO_FAR(len, needed)                                                                                                                     \
-    {(len) - (needed) + 1, (len)-1, (len), (len) + 1, (len) + (needed), ((size_t)1 << 16) + 1, ((size_t)1 << 32) + 1, SIZE_MAX / 2,              \
-     SIZE_MAX / 2 + 1, SIZE_MAX / 2 + 2, SIZE_MAX - (needed)-1, SIZE_MAX - (needed), SIZE_MAX - (needed) + 1, SIZE_MAX - (needed) + 2,           \
-     SIZE_MAX - 1, SIZE_MAX}
+#define TOO_FAR(len, needed) \
+    {(len) - (needed) + 1, (len) - 1, (len), (len) + 1, (len) + (needed), ((size_t)1 << 16) + 1, ((size_t)1 << 32) + 1, \
+     SIZE_MAX / 2, SIZE_MAX / 2 + 1, SIZE_MAX / 2 + 2, SIZE_MAX - (needed) - 1, SIZE_MAX - (needed), SIZE_MAX - (needed) + 1, \
+     SIZE_MAX - (needed) + 2, SIZE_MAX - 1, SIZE_MAX}
 
 /* One call with nothing else wrong, and one in which all that is asked later is wrong too. So below. */
 static void bits_too_far(size_t n)
@@ -95,8 +101,7 @@ static void bits_too_far(size_t n)
     uint16_t fit[SHARES * SHARES] = {0}, high[SHARES * SHARES];
     size_t needed = n * (n - 1), len = needed + 1;
     const size_t starts[] = TOO_FAR(len, needed);
-    draw(high, len, 1);
-    high[0] = high[len - 1] = 17;
+    fill(high, len, 17);
     for (size_t i = 0; i < COUNT(starts); i++) {
         const struct bit_start cases[] = {
             START(starts[i], n, 17, {fit, n}, {fit, len}, n, {8, 0}, NONE),
@@ -111,8 +116,7 @@ static void samples_too_far(size_t n, size_t k)
     static uint16_t fit[SAMPLE_WORDS + 1], high[SAMPLE_WORDS + 1];
     size_t needed = 2 * k * n * (n - 1), len = needed + 1;
     const size_t starts[] = TOO_FAR(len, needed);
-    draw(high, len, 1);
-    high[0] = high[len - 1] = 65535;
+    fill(high, len, 65535);
     for (size_t i = 0; i < COUNT(starts); i++) {
         const struct sample_start cases[] = {
             START(starts[i], n, k, 65535, {fit, n}, {fit, n}, {fit, len}, n, 2 * k * n, {8, 0}, NONE),
@@ -127,8 +131,7 @@ static void far_inside(void)
 {
     enum { FAR = 65538, LEN = FAR + 5 };
     static uint16_t words[LEN];
-    for (size_t i = 0; i < LEN; i++)
-        words[i] = 65535;
+    fill(words, LEN, 65535);
     words[FAR] = 5, words[FAR + 1] = 3, words[FAR + 2] = 10, words[FAR + 3] = 16;
     const struct bit_start bits[] = {
         START(FAR, 2, 17, LIST(1, 0), {words, LEN}, 2, {0, FAR + 2}, LIST(16, 2)),
@@ -144,7 +147,7 @@ static void far_inside(void)
     sample_all(samples, COUNT(samples));
 }
 
-/* Calls that hand the position on, from the second word to the last but one: a, b, the bits of a, and d. */
+/* Calls that hand the position on, from the second word to the last but one: a, b, the bits of a, and d. There no call can start. */
 static void walk(void)
 {
     static const uint16_t words[] = {17, 5, 3, 10, 16, 5, 3, 10, 14, 5, 3, 10, 16, 1, 2, 3, 4, 5, 6, 0, 0, 0, 0, 0, 0, 65535};
@@ -154,6 +157,7 @@ static void walk(void)
     const struct bit_case x = CASE(2, 17, LIST(1, 0), all, 2, {0, 11}, LIST(16, 2));
     const struct bit_case y = CASE(2, 17, LIST(1, 1), all, 2, {0, 13}, LIST(9, 8));
     const struct sample_case d = CASE(3, 1, 17, LIST(1, 0, 1), LIST(0, 0, 0), all, 3, 6, {0, 25}, LIST(12, 4, 1));
+    const struct bit_case last = CASE(2, 17, LIST(1, 0), all, 2, {8, 0}, NONE);
     uint16_t shares[SHARES];
     begin_case(__FILE__, __LINE__);
     size_t at = sample(&a, AT(1), 0, shares);
@@ -162,6 +166,7 @@ static void walk(void)
     at = convert_bit(&y, AT(at), 0, shares);
     at = sample(&d, AT(at), 0, shares);
     CHECK(at == all.len - 1);
+    convert_bit(&last, AT(at), 0, shares);
 }
 
 /* Samples that hand the position on make what each makes of its own words alone. */

@@ -108,13 +108,13 @@ impl Call {
                     let [bits, words, out] = [bits, words, out].map(|list| (list.start(), list.len()));
                     tp_convert_bit(n as usize, q as u16, bits.0, bits.1, words.0, words.1, start as usize, out.0, out.1).into()
                 }
-                (Function::Sample | Function::SamplePolynomial, &[n, k, q, last], [x, y, words, out, work]) => {
+                (Function::Sample | Function::SamplePolynomial, &[n, k, q, start_or_m], [x, y, words, out, work]) => {
                     let [x, y, words, out, work] = [x, y, words, out, work].map(|list| (list.start(), list.len()));
-                    let (n, k, q, last) = (n as usize, k as usize, q as u16, last as usize);
+                    let (n, k, q, start_or_m) = (n as usize, k as usize, q as u16, start_or_m as usize);
                     if self.function == Function::Sample {
-                        tp_sample(n, k, q, x.0, x.1, y.0, y.1, words.0, words.1, last, out.0, out.1, work.0, work.1).into()
+                        tp_sample(n, k, q, x.0, x.1, y.0, y.1, words.0, words.1, start_or_m, out.0, out.1, work.0, work.1).into()
                     } else {
-                        tp_sample_polynomial(n, k, q, last, x.0, x.1, y.0, y.1, words.0, words.1, out.0, out.1, work.0, work.1).into()
+                        tp_sample_polynomial(n, k, q, start_or_m, x.0, x.1, y.0, y.1, words.0, words.1, out.0, out.1, work.0, work.1).into()
                     }
                 }
                 _ => panic!("the inputs of another function"),
