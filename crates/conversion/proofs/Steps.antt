@@ -11,7 +11,7 @@ use Rattle.residue.specs.Laws.{reduce-small, reduce-lt, reduce-add, add-zero, a
 use Rattle.residue.specs.Sum.{running-none, running-next, running-all, sum-last, sum-lt}
 use Rattle.buffers.specs.Positions.{at, table, after, Same, Below}
 use Rattle.buffers.specs.PositionLaws.{table-same, after-after, set-agrees}
-use Rattle.checks.specs.Width.{bit-lt, bit-lowest}
+use Rattle.checks.specs.Width.{bit-lowest}
 use Rattle.conversion.specs.Conversion.{bitsAt, pairs, extend, lessTwice, xorBit, xorShare, convert, refresh, convertBit, bitShares}
 use Rattle.conversion.specs.ZeroSharing.{zeroSharing, refresh-adds, refresh-cong}
 use Rattle.conversion.specs.Laws.{lessTwice-zero, lessTwice-one, extend-below, extend-from, xorShare-cong, convert-reduced, convertBit-local}
@@ -218,8 +218,14 @@ module _ (q : ℕ) (w : ℕ → ℕ) where
 -- ---- one bit alone
 
 -- Its shares, which stand in front of the array, are their own lowest bits.
-pub bit-alone : (n q : ℕ) (bits words : List ℕ) (start : ℕ) (array : List ℕ) → 2 < q → 1 ≤ n → Below 2 n (at bits) → Same n (at array) (at bits)
-    → table n (convertBit q n (bitsAt (at array) 0) (after start (at words))) ≡ bitShares n q bits (drop start words)
+pub bit-alone : (n q : ℕ) (bits words : List ℕ) (start : ℕ) (array lowest : List ℕ) → 2 < q → 1 ≤ n → n ≤ 8 → Below 2 n (at bits) → Same n (at array) (at bits) → Holds 8 (bitsAt (at array) 0) lowest
+    → Below 2 n (at lowest) × (table n (convertBit q n (at lowest) (after start (at words))) ≡ bitShares n q bits (drop start words))
 unfolding bitShares
-bit-alone n q bits words start array large h below same =
-    table-same n _ _ (convertBit-local q n (bitsAt (at array) 0) (at bits) _ _ (omega (arith, bit-lt (at array 0) 0)) (omega (arith, below 0 h)) (λ i l. rw (same i l) (bit-lowest (at bits i) ∙ omega (arith, below i l))) (λ j l. sym (getD-drop start words j 0)))
+bit-alone n q bits words start array lowest large h m below same L =
+    (small, table-same n _ _ (convertBit-local q n (at lowest) (at bits) _ _ (omega (arith, small 0 h)) (omega (arith, below 0 h)) lowest-same (λ j l. sym (getD-drop start words j 0))))
+  where
+    lowest-same : Same n (at lowest) (at bits)
+    lowest-same i l = L .same i (omega arith) ∙ rw (same i l) (bit-lowest (at bits i) ∙ omega (arith, below i l))
+
+    small : Below 2 n (at lowest)
+    small i l = rw (lowest-same i l) (below i l)

@@ -49,7 +49,7 @@ fn xor_share(a: [Word; 8], j: usize, bit: Word, q: Word, words: &[Word], start: 
 }
 
 // Bit t of each share.
-fn bits_at(shares: &[u16; 8], t: usize) -> [Word; 8]
+pub fn bits_at(shares: &[u16; 8], t: usize) -> [Word; 8]
     requires { ⌜ t < 16 ⌝ }
     ensures { λ r. ⌜ Holds 8 (bitsAt (at (now (shares .entry))) t) r ⌝ }
 {
@@ -76,7 +76,6 @@ pub struct Converted {
 }
 
 // Steps 1 and 2: the list for the first j shares of a bit, with the j(j - 1)/2 words at `start`.
-// `&words[..]`: the words' address and length are then copied one by one, as they were stored, which is faster than both at once.
 fn convert(bits: &[Word; 8], j: usize, q: Word, words: &[Word], start: usize) -> Converted
     requires { ⌜ (1 ≤ j) × (j ≤ 8) × Below 2 j (at (now bits)) × Modulus q × Drawn q start (pairs j) (now words) ⌝ }
     ensures { λ r. ⌜ Holds j (convert q j (at (now (bits .entry))) (after start (at (now (words .entry))))) (r .list) × (r .next ≡ start + pairs j) ⌝ }
@@ -88,13 +87,22 @@ fn convert(bits: &[Word; 8], j: usize, q: Word, words: &[Word], start: usize) ->
             next: start,
         };
     }
-    let k = j - 1;
-    let first = convert(bits, k, q, &words[..], start);
+    add_share(bits, j - 1, q, words, start)
+}
+
+// The list for j + 1 shares: the first j are converted first, and step 2 takes its words from where they end.
+// `&words[..]`: the words' address and length are then copied one by one, as they were stored, which is faster than both at once.
+fn add_share(bits: &[Word; 8], j: usize, q: Word, words: &[Word], start: usize) -> Converted
+    requires { ⌜ (1 ≤ j) × (j < 8) × Below 2 (j + 1) (at (now bits)) × Modulus q × Drawn q start (pairs (j + 1)) (now words) ⌝ }
+    ensures { λ r. ⌜ Holds (j + 1) (convert q (j + 1) (at (now (bits .entry))) (after start (at (now (words .entry))))) (r .list) × (r .next ≡ start + pairs (j + 1)) ⌝ }
+{
+    let bit = bits[j];
+    let first = convert(bits, j, q, &words[..], start);
     let a = first.list;
-    let list = xor_share(a, k, bits[k], q, words, first.next);
+    let list = xor_share(a, j, bit, q, words, first.next);
     Converted {
         list: list,
-        next: first.next + k,
+        next: first.next + j,
     }
 }
 
@@ -127,11 +135,10 @@ fn refresh(
     p
 }
 
-// The n shares of bit t, by steps 1, 2 and 3 with the n(n - 1) words at `start`. They come to stand at `to` in `out` and behind. Answers the
+// The n shares of a bit, by steps 1, 2 and 3 with the n(n - 1) words at `start`. They come to stand at `to` in `out` and behind. Answers the
 // position after the last word.
 pub fn convert_at(
-    shares: &[u16; 8],
-    t: usize,
+    bits: &[Word; 8],
     n: usize,
     q: Word,
     words: &[Word],
@@ -139,11 +146,10 @@ pub fn convert_at(
     out: &mut [Word],
     to: usize,
 ) -> usize
-    requires { ⌜ (2 ≤ n) × (n ≤ 8) × (t < 16) × Modulus q × Drawn q start (bitWords n) (now words) × (to + n ≤ length (now out)) ⌝ }
-    ensures { λ r. ⌜ (now (out .exit) ≡ overwrite (now (out .entry)) to (table n (convertBit q n (bitsAt (at (now (shares .entry))) t) (after start (at (now (words .entry))))))) × (r ≡ start + bitWords n) ⌝ }
+    requires { ⌜ (2 ≤ n) × (n ≤ 8) × Below 2 n (at (now bits)) × Modulus q × Drawn q start (bitWords n) (now words) × (to + n ≤ length (now out)) ⌝ }
+    ensures { λ r. ⌜ (now (out .exit) ≡ overwrite (now (out .entry)) to (table n (convertBit q n (at (now (bits .entry))) (after start (at (now (words .entry))))))) × (r ≡ start + bitWords n) ⌝ }
 {
-    let bits = bits_at(shares, t);
-    let mut first = convert(&bits, n, q, &words[..], start);
+    let mut first = add_share(bits, n - 1, q, &words[..], start);
     let next = first.next;
     refresh(&mut first.list, n, q, words, next, out, to)
 }
@@ -191,5 +197,6 @@ pub fn convert_bit(
     }
     let mut array = [0u16; 8];
     buffers::copy_eight(&mut array, bits);
-    Answer::Done(convert_at(&array, 0, n, q, words, start, out, 0))
+    let lowest = bits_at(&array, 0);
+    Answer::Done(convert_at(&lowest, n, q, words, start, out, 0))
 }

@@ -12,18 +12,22 @@ use Rattle.residue.specs.Laws.{sub-cong}
 use Rattle.residue.specs.Sum.{sum-cong, each-below-append}
 use Rattle.buffers.specs.Overwrite.{overwrite}
 use Rattle.buffers.specs.Laws.{length-overwrite, overwrite-append, front-below, drop-front}
-use Rattle.buffers.specs.Positions.{at, table, rows, after, Below}
+use Rattle.buffers.specs.Positions.{at, table, rows, after, Same, Below}
 use Rattle.buffers.specs.PositionLaws.{after-at, drop-after, table-same}
 use Rattle.buffers.specs.Rows.{length-rows, rows-at, rows-below}
+use Rattle.checks.specs.Width.{bit-lt}
 use Rattle.conversion.specs.Conversion.{convertBit, bitsAt, bitWords}
+use Rattle.conversion.specs.Laws.{convertBit-local}
 use Rattle.conversion.specs.Arrays.{Drawn}
 use Rattle.sampler.specs.Sampler.{row, stringShare, sampleShare, sampleShares, workLength}
 use Rattle.sampler.specs.Columns.{columnShare}
 
--- a row whose words begin at a position of the list
-pub row-from : (n q t : ℕ) (x w v : ℕ → ℕ) → v ≡ after (t * bitWords n) w → table n (convertBit q n (bitsAt x t) v) ≡ table n (row q n x w t)
+-- a row, of the bits of a turn and of words that begin at a position of the list
+pub row-from : (n q t : ℕ) (x b w v : ℕ → ℕ) → 2 < q → 1 ≤ n → Same n b (bitsAt x t) → v ≡ after (t * bitWords n) w → table n (convertBit q n b v) ≡ table n (row q n x w t)
 unfolding row
-row-from n q t x w v e = ap (λ (u : ℕ → ℕ). table n (convertBit q n (bitsAt x t) u)) e
+row-from n q t x b w v large h same e =
+    let l = bit-lt (x 0) t in
+    table-same n _ _ (convertBit-local q n b (bitsAt x t) v (after (t * bitWords n) w) (rw (same 0 h) (omega arith)) (omega arith) same (λ j l. ap (λ (u : ℕ → ℕ). u j) e))
 
 -- ---- the work area with the rows of both strings
 

@@ -34,7 +34,8 @@ fn write_rows(
 {
     let mut p = start;
     for bit in 0..k {
-        p = conversion::convert_at(shares, bit, n, q, words, p, work, to + bit * n);
+        let bits = conversion::bits_at(shares, bit);
+        p = conversion::convert_at(&bits, n, q, words, p, work, to + bit * n);
     }
     p
 }
