@@ -8,7 +8,7 @@ use native.Mathlib.Nat.{suc-inj, suc-ne-zero, not-suc-le-zero, le-of-suc-le-suc}
 use native.Mathlib.Decide.{decLt, ℕ-discrete}
 use native.Mathlib.Omega.{arith}
 use borrow.Author.Tests.{lt-ltb, le-ltb}
-use lib.ListN.{length, set, take, drop, length-drop, List·getD-eq-default}
+use lib.ListN.{length, set, take, drop, List·getD-eq-default}
 use lib.Seq.{getD-set-same, getD-set-other, getD-take, getD-drop, take-all}
 use Rattle.residue.specs.Residue.{EachBelow}
 use Rattle.buffers.specs.Overwrite.{overwrite}

@@ -1,5 +1,5 @@
 -- No n − 1 shares of a converted bit tell one shared bit from another: the words of step 3 make up for any difference but in one share.
-use mathlib.Core.Path.{_≡_, sym, ap, _∙_}
+use mathlib.Core.Path.{sym, ap, _∙_}
 use mathlib.Core.List.{List}
 use Prim.Native.Nat.{ℕ, _+_, _≤_, _<_}
 use native.Mathlib.Omega.{arith}
