@@ -70,9 +70,9 @@ fn one_share(bit: Word) -> [Word; 8]
 }
 
 // A list that steps 1 and 2 made, and the position after their last word.
-pub struct Converted {
-    pub list: [Word; 8],
-    pub next: usize,
+struct Converted {
+    list: [Word; 8],
+    next: usize,
 }
 
 // Steps 1 and 2: the list for the first j shares of a bit, with the j(j - 1)/2 words at `start`.
@@ -136,7 +136,7 @@ fn refresh(
 }
 
 // The n shares of a bit, by steps 1, 2 and 3 with the n(n - 1) words at `start`. They come to stand at `to` in `out` and behind. Answers the
-// position after the last word.
+// position after the last word. There are two shares at least, so the last is added to those before it.
 pub fn convert_at(
     bits: &[Word; 8],
     n: usize,
