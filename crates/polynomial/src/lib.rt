@@ -14,7 +14,7 @@ ghost use Rattle.sampler.specs.Sampler.{sampleWords, workLength, both};
 ghost use Rattle.polynomial.specs.Polynomial.{coefficientShares, polynomialShares, polynomialWords, stringsChecks, polynomialChecks, sampledPolynomial};
 ghost use Rattle.polynomial.specs.Secrecy.{PolynomialSecrecy};
 
-// The sample of coefficient t, from the blocks t of x, y and the words, of which the last begins at `start`, to that of the output. Its rows are
+// The sample of coefficient t, from the blocks t of x and y and that of the words, which begins at `start`, to block t of the output. Its rows are
 // left in the work area. Answers the position after the last word.
 // `&words[..]`: the words' address and length are then copied one by one, as they were stored, which is faster than both at once.
 fn write_coefficient(
