@@ -18,13 +18,26 @@ use Rattle.lesson.proofs.make_sample.Tie as tie
 eight : (s : tie.Start) → s .args .layout .parameters .n ≤ 8
 eight s = within-true 2 8 _ (s .pre .0 .parameters .0) .1
 
-x : (c : tie.After-copy-shares) → take (c .before .before .before .before .before .before .before .before .before .args .layout .parameters .n) (c .copy-shares .last .1 .1 .1 .0) ≡ wordsFrom (c .before .before .before .before .before .before .before .before .before .args .file .now) (c .before .before .before .before .before .before .before .before .before .args .layout .lists .x + 2) (c .before .before .before .before .before .before .before .before .before .args .layout .parameters .n)
+-- the places where the call begins, where each list is copied, and where the sampler has answered
+abbrev first : tie.After-copy-shares → tie.Start
+first c = c .before .before .before .before .before .before .before .before .before
+
+abbrev second : tie.After-copy-shares2 → tie.After-copy-shares
+second c = c .before .before .before .before
+
+abbrev third : tie.After-copy-words → tie.After-copy-shares2
+third c = c .before .before .before .before
+
+abbrev there : tie.After-sample → tie.After-copy-words
+there c = c .before .before .before .before .before .before .before .before
+
+x : (c : tie.After-copy-shares) → let a = first c .args in take (a .layout .parameters .n) (c .copy-shares .last .1 .1 .1 .0) ≡ wordsFrom (a .file .now) (a .layout .lists .x + 2) (a .layout .parameters .n)
 x c = words-taken _ _ _ _ _ (c .copy-shares .ensures)
 
-y : (c : tie.After-copy-shares2) → take (c .before .before .before .before .before .before .before .before .before .before .before .before .before .args .layout .parameters .n) (c .copy-shares2 .last .1 .1 .1 .0) ≡ wordsFrom (c .before .before .before .before .before .before .before .before .before .before .before .before .before .args .file .now) (c .before .before .before .before .before .before .before .before .before .before .before .before .before .args .layout .lists .y + 2) (c .before .before .before .before .before .before .before .before .before .before .before .before .before .args .layout .parameters .n)
+y : (c : tie.After-copy-shares2) → let a = first (second c) .args in take (a .layout .parameters .n) (c .copy-shares2 .last .1 .1 .1 .0) ≡ wordsFrom (a .file .now) (a .layout .lists .y + 2) (a .layout .parameters .n)
 y c = words-taken _ _ _ _ _ (c .copy-shares2 .ensures)
 
-words : (c : tie.After-copy-words) → take (c .before .before .before .before .before .before .before .before .before .before .before .before .before .before .before .before .before .args .layout .count) (c .copy-words .last .1 .1 .1 .0) ≡ wordsFrom (c .before .before .before .before .before .before .before .before .before .before .before .before .before .before .before .before .before .args .file .now) (c .before .before .before .before .before .before .before .before .before .before .before .before .before .before .before .before .before .args .layout .lists .next .at + 4) (c .before .before .before .before .before .before .before .before .before .before .before .before .before .before .before .before .before .args .layout .count)
+words : (c : tie.After-copy-words) → let a = first (second (third c)) .args in take (a .layout .count) (c .copy-words .last .1 .1 .1 .0) ≡ wordsFrom (a .file .now) (a .layout .lists .next .at + 4) (a .layout .count)
 words c = words-taken _ _ _ _ _ (c .copy-words .ensures)
 
 fits : (s : tie.Start) → s .args .layout .count ≤ length (s .args .words .now)
@@ -37,12 +50,14 @@ same-lists : (n k q : ℕ) {x x′ y y′ w w′ : List ℕ} (out work : List �
 same-lists n k q out work a b c = rw (a, b, c)
 
 abbrev start : tie.After-sample → tie.Start
-start c = c .before .before .before .before .before .before .before .before .before .before .before .before .before .before .before .before .before .before .before .before .before .before .before .before .before
+start c = first (second (third (there c)))
 
 -- the sampler was lent what the file says
-sampler : (c : tie.After-sample) → outcome (c .sample .result) (both (c .sample .last .1 .1 .1 .1 .1 .1 .1 .0) (c .sample .last .1 .1 .1 .1 .1 .1 .1 .1 .0)) ≡ sampled (sample (start c) .n) (sample (start c) .k) (sample (start c) .q) (sample (start c) .x) (sample (start c) .y) (sample (start c) .words) 0 (start c .args .out .now) (start c .args .work .now)
+sampler : (c : tie.After-sample) → let s = start c in outcome (c .sample .result) (both (c .sample .last .1 .1 .1 .1 .1 .1 .1 .0) (c .sample .last .1 .1 .1 .1 .1 .1 .1 .1 .0)) ≡ sampled (sample s .n) (sample s .k) (sample s .q) (sample s .x) (sample s .y) (sample s .words) 0 (s .args .out .now) (s .args .work .now)
 unfolding sampleOf
-sampler c = c .sample .ensures .0 ∙ same-lists _ _ _ _ _ (x (c .before .before .before .before .before .before .before .before .before .before .before .before .before .before .before .before)) (y (c .before .before .before .before .before .before .before .before .before .before .before .before)) (words (c .before .before .before .before .before .before .before .before))
+sampler c =
+    let w = there c in
+    c .sample .ensures .0 ∙ same-lists _ _ _ _ _ (x (second (third w))) (y (third w)) (words w)
 
 add-copy-shares : tie.Need-add-copy-shares
 add-copy-shares c = search needs
@@ -81,7 +96,10 @@ slice-aggregate-sample-2 : tie.Need-slice-aggregate-sample-2
 slice-aggregate-sample-2 c = sym (ap length (y (c .before .before .before .before .before .before .before .before)) ∙ length-words _ _ _)
 
 slice-reshare-prefix-sample : tie.Need-slice-reshare-prefix-sample
-slice-reshare-prefix-sample c = omega (arith, fits (c .before .before .before .before .before .before .before .before .before .before .before .before .before .before .before .before .before .before .before .before .before), words-length _ _ _ _ _ (c .before .before .before .before .copy-words .ensures) (fits (c .before .before .before .before .before .before .before .before .before .before .before .before .before .before .before .before .before .before .before .before .before)))
+slice-reshare-prefix-sample c =
+    let w = c .before .before .before .before in
+    let h = fits (first (second (third w))) in
+    omega (arith, words-length _ _ _ _ _ (w .copy-words .ensures) h)
 
 slice-aggregate-sample-3 : tie.Need-slice-aggregate-sample-3
 slice-aggregate-sample-3 c = sym (ap length (words (c .before .before .before .before .before)) ∙ length-words _ _ _)
@@ -110,9 +128,9 @@ same-length-3 c = search needs
 returns : tie.Need-returns
 unfolding sampleOf
 returns c =
-    let s = c .before .before .before .before .before .before .before .before .before .before .before .before .before .before .before .before .before .before .before .before .before .before .before .before .before .before .before .before .before .before .before .before in
-    judged-done (s .args .file .now) (s .args .layout) (s .pre .0) (sampleBuffers (s .args .words .now) (s .args .out .now) (s .args .work .now)) (s .pre .1) _ _ _ (c .before .before .before .before .before .before .before .before .before .before .before .before .before .before .before .copy-words .ensures) _ (sampler (c .before .before .before .before .before .before .before)) _
-    (c .before .used .given .1)
+    let d = c .before .before .before .before .before .before .before in
+    let s = start d in
+    judged-done (s .args .file .now) (s .args .layout) (s .pre .0) (sampleBuffers (s .args .words .now) (s .args .out .now) (s .args .work .now)) (s .pre .1) _ _ _ (there d .copy-words .ensures) _ (sampler d) _ (c .before .used .given .1)
 
 same-length-4 : tie.Need-same-length-4
 same-length-4 c = search needs
@@ -126,8 +144,9 @@ same-length-6 c = search needs
 returns-2 : tie.Need-returns-2
 unfolding sampleOf
 returns-2 c =
-    let s = c .before .before .before .before .before .before .before .before .before .before .before .before .before .before .before .before .before .before .before .before .before .before .before .before .before .before .before .before .before .before .before .before .before in
-    judged-refused (s .args .file .now) (s .args .layout) (s .pre .0) (sampleBuffers (s .args .words .now) (s .args .out .now) (s .args .work .now)) (s .pre .1) _ _ _ (c .before .before .before .before .before .before .before .before .before .before .before .before .before .before .before .before .copy-words .ensures) _ (sampler (c .before .before .before .before .before .before .before .before)) _ _
+    let d = c .before .before .before .before .before .before .before .before in
+    let s = start d in
+    judged-refused (s .args .file .now) (s .args .layout) (s .pre .0) (sampleBuffers (s .args .words .now) (s .args .out .now) (s .args .work .now)) (s .pre .1) _ _ _ (there d .copy-words .ensures) _ (sampler d) _ _
     (c .before .before .r .given .1) (c .record-of .ensures)
 
 pub make-sample-spec : {M : Type 1} → statement M
