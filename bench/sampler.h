@@ -1,6 +1,6 @@
-/* The sampler of documents 01 and 02 in C. The file that includes this one says by which functions it reckons modulo q: add, sub and
- * less_twice (v - 2vb for a bit b), on operands below q. It is built for each compiler and call apart: -DNAME=careful_sample_gcc, or
- * -DNAME=careful_polynomial_gcc -DIS_polynomial. */
+/* The sampler of documents 01 and 02 in C, with words from the front of the list. The file that includes this one says by which functions it
+ * reckons modulo q: add, sub and less_twice (v - 2vb for a bit b), on operands below q. It is built for each compiler and call apart:
+ * -DNAME=careful_sample_gcc, or -DNAME=careful_polynomial_gcc -DIS_polynomial. */
 #ifndef BENCH_SAMPLER_H
 #define BENCH_SAMPLER_H
 

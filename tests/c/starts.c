@@ -1,4 +1,4 @@
-/* Calls that start inside the word list. The cases of sampling.c are tried there too. */
+/* Calls that start inside the word list. sampling.c tries its own cases in such a place too. */
 #include "client.h"
 
 struct bit_start {

@@ -195,7 +195,7 @@ pub extern "C" fn tp_convert_bit(
     answer(conversion::convert_bit(n, q, bits, words, start, out))
 }
 
-// `&words[..]`: the words' address and length are then copied one by one, as they were stored, which is faster than both at once.
+// `&words[..]`: docs/DECISIONS.md, 'A slice is handed on by its parts'.
 #[no_mangle]
 pub extern "C" fn tp_sample(
     n: usize,

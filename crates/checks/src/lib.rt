@@ -14,7 +14,7 @@ pub struct Refusal {
     pub position: usize,
 }
 
-// What a call answers that answers a count.
+// What a call answers that answers a count, or the position after its last word.
 pub enum Answer {
     Done(usize),
     Refused(Refusal),

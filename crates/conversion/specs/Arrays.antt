@@ -10,7 +10,7 @@ use Rattle.residue.specs.Residue.{EachBelow}
 use Rattle.buffers.specs.Positions.{at, after, Same, Below}
 use Rattle.checks.specs.Checks.{isNone, wordChecks}
 use Rattle.checks.specs.Laws.{Hold, none-each-below, each-below-none}
-use Rattle.secrecy.specs.Secrecy.{Full, inside}
+use Rattle.secrecy.specs.Secrecy.{Full, between}
 
 -- eight words, of which the first n are those of f
 pub record Holds (n : ℕ) (f : ℕ → ℕ) (a : List ℕ) : Type 0 where
@@ -56,8 +56,8 @@ module _ (q start count : ℕ) (words : List ℕ) where
 pub full-drawn : {q count : ℕ} {words : List ℕ} → Full q count words → Drawn q 0 count words
 full-drawn f = record { room = omega (arith, f .count); below = λ i l. f .below (0 + i) (omega (arith, f .count)) }
 
-pub inside-drawn : {q count : ℕ} {words : List ℕ} → Full q count words → (before behind : List ℕ) → Drawn q (length before) count (inside before words behind)
-inside-drawn {q} {count} {words} f before behind =
+pub between-drawn : {q count : ℕ} {words : List ℕ} → Full q count words → (before behind : List ℕ) → Drawn q (length before) count (between before words behind)
+between-drawn {q} {count} {words} f before behind =
     let e = length-append before (words ++ behind) in
     let d = length-append words behind in
     record {

@@ -6,10 +6,10 @@ use lib.ListN.{length, take}
 use Rattle.residue.specs.Residue.{reduce, total}
 use Rattle.checks.specs.Checks.{Outcome, accepted, checked}
 use Rattle.masking.specs.Sharing.{xorAll}
-use Rattle.secrecy.specs.Secrecy.{Full, inside, Indistinguishable, AgreeBut}
+use Rattle.secrecy.specs.Secrecy.{Full, between, Indistinguishable, AgreeBut}
 use Rattle.conversion.specs.Conversion.{bitWords, bitShares, sharingChecks, converted}
 
--- The outcome of an accepted call whose words are the list `words`, from `start` on: the position after the last of them, and n shares, which
+-- The outcome of an accepted call whose own words are the list `words`, which stands from `start` on: the position after it, and n shares, which
 -- are those of the written steps; their residue is the call's own bit.
 pub record Converts (n q : ℕ) (bits words : List ℕ) (start : ℕ) (o : Outcome ℕ (List ℕ)) : Type 0 where
   pub end : o .answer ≡ accepted (start + bitWords n)
@@ -28,4 +28,4 @@ unfoldable pub BitSecrecy : ℕ → ℕ → Type 0
 BitSecrecy n q =
     (ℓ : ℕ) → ℓ < n → (bits bits′ : List ℕ) → checked (sharingChecks n q bits) ≡ accepted tt → checked (sharingChecks n q bits′) ≡ accepted tt
     → Indistinguishable (Full q (bitWords n)) (λ words words′. (before behind out out′ : List ℕ) → n ≤ length out → n ≤ length out′
-    → AlikeBut ℓ n q (length before) bits words (converted n q bits (inside before words behind) (length before) out) bits′ words′ (converted n q bits′ (inside before words′ behind) (length before) out′))
+    → AlikeBut ℓ n q (length before) bits words (converted n q bits (between before words behind) (length before) out) bits′ words′ (converted n q bits′ (between before words′ behind) (length before) out′))

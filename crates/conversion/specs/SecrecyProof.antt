@@ -7,11 +7,11 @@ use lib.ListN.{length}
 use Rattle.buffers.specs.Positions.{at, Same}
 use Rattle.buffers.specs.PositionLaws.{after-zero}
 use Rattle.checks.specs.Laws.{Hold, accepted-holds}
-use Rattle.secrecy.specs.Secrecy.{Full, inside, Indistinguishable, AgreeBut}
-use Rattle.secrecy.specs.Laws.{weaken, inside-taken, agree-front}
+use Rattle.secrecy.specs.Secrecy.{Full, between, Indistinguishable, AgreeBut}
+use Rattle.secrecy.specs.Laws.{weaken, between-taken, agree-front}
 use Rattle.secrecy.specs.Translation.{indistinguishable}
 use Rattle.conversion.specs.Conversion.{convertBit, bitWords, bitShares, sharingChecks, converted}
-use Rattle.conversion.specs.Arrays.{inside-drawn}
+use Rattle.conversion.specs.Arrays.{between-drawn}
 use Rattle.conversion.specs.Accepted.{SharedBit, first-lt, shared-bit, call-holds}
 use Rattle.conversion.specs.Calls.{bitShares-at, call-converts}
 use Rattle.conversion.specs.Translation.{bitForm, convertBit-form, refreshWords, bit-equivariant}
@@ -38,10 +38,10 @@ shares-secrecy {n} {q} {bits} {bits′} S S′ ℓ l =
 
 -- a call on a full list between others
 module _ (n q : ℕ) (bits : List ℕ) (h : Hold (sharingChecks n q bits)) (words : List ℕ) (f : Full q (bitWords n) words) (before behind out : List ℕ) (r : n ≤ length out) where
-  inside-converts : Converts n q bits words (length before) (converted n q bits (inside before words behind) (length before) out)
-  inside-converts =
-      rw (inside-taken f before behind) at (call-converts n q bits (inside before words behind) (length before) out
-      (call-holds n q bits (inside before words behind) (length before) (length out) h (inside-drawn f before behind) r))
+  between-converts : Converts n q bits words (length before) (converted n q bits (between before words behind) (length before) out)
+  between-converts =
+      rw (between-taken f before behind) at (call-converts n q bits (between before words behind) (length before) out
+      (call-holds n q bits (between before words behind) (length before) (length out) h (between-drawn f before behind) r))
 
 pub bit-secrecy : (n q : ℕ) → BitSecrecy n q
 unfolding BitSecrecy
@@ -50,7 +50,7 @@ bit-secrecy n q ℓ l bits bits′ a a′ =
     let h′ = accepted-holds tt tt (sharingChecks n q bits′) a′ in
     weaken
     (λ v w f g same before behind out out′ r r′.
-    let one = inside-converts n q bits h v f before behind out r in
-    let other = inside-converts n q bits′ h′ w g before behind out′ r′ in
+    let one = between-converts n q bits h v f before behind out r in
+    let other = between-converts n q bits′ h′ w g before behind out′ r′ in
     record { one = one; other = other; agree = agree-front ℓ n _ _ (one .shares) (other .shares) same })
     (shares-secrecy (shared-bit n q bits h) (shared-bit n q bits′ h′) ℓ l)

@@ -70,19 +70,19 @@ fn one_share(bit: Word) -> [Word; 8]
 }
 
 // A list that steps 1 and 2 made, and the position after their last word.
-struct Converted {
+struct Unrefreshed {
     list: [Word; 8],
     next: usize,
 }
 
 // Steps 1 and 2: the list for the first j shares of a bit, with the j(j - 1)/2 words at `start`.
-fn convert(bits: &[Word; 8], j: usize, q: Word, words: &[Word], start: usize) -> Converted
+fn convert(bits: &[Word; 8], j: usize, q: Word, words: &[Word], start: usize) -> Unrefreshed
     requires { ⌜ (1 ≤ j) × (j ≤ 8) × Below 2 j (at (now bits)) × Modulus q × Drawn q start (pairs j) (now words) ⌝ }
     ensures { λ r. ⌜ Holds j (convert q j (at (now (bits .entry))) (after start (at (now (words .entry))))) (r .list) × (r .next ≡ start + pairs j) ⌝ }
 {
     if j == 1 {
         let list = one_share(bits[0]);
-        return Converted {
+        return Unrefreshed {
             list: list,
             next: start,
         };
@@ -91,8 +91,8 @@ fn convert(bits: &[Word; 8], j: usize, q: Word, words: &[Word], start: usize) ->
 }
 
 // The list for j + 1 shares: the first j are converted first, and step 2 takes its words from where they end.
-// `&words[..]`: the words' address and length are then copied one by one, as they were stored, which is faster than both at once.
-fn add_share(bits: &[Word; 8], j: usize, q: Word, words: &[Word], start: usize) -> Converted
+// `&words[..]`: docs/DECISIONS.md, 'A slice is handed on by its parts'.
+fn add_share(bits: &[Word; 8], j: usize, q: Word, words: &[Word], start: usize) -> Unrefreshed
     requires { ⌜ (1 ≤ j) × (j < 8) × Below 2 (j + 1) (at (now bits)) × Modulus q × Drawn q start (pairs (j + 1)) (now words) ⌝ }
     ensures { λ r. ⌜ Holds (j + 1) (convert q (j + 1) (at (now (bits .entry))) (after start (at (now (words .entry))))) (r .list) × (r .next ≡ start + pairs (j + 1)) ⌝ }
 {
@@ -100,7 +100,7 @@ fn add_share(bits: &[Word; 8], j: usize, q: Word, words: &[Word], start: usize) 
     let first = convert(bits, j, q, &words[..], start);
     let a = first.list;
     let list = xor_share(a, j, bit, q, words, first.next);
-    Converted {
+    Unrefreshed {
         list: list,
         next: first.next + j,
     }

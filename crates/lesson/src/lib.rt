@@ -68,20 +68,19 @@ fn make_sample(
 {
     let parameters = layout.parameters;
     let n = parameters.n;
-    let count = layout.count;
     let next = layout.next;
     let mut x = [0u16; 8];
     let mut y = [0u16; 8];
     lesson_file::copy_shares(file, layout.lists.x + 2, n, &mut x);
     lesson_file::copy_shares(file, layout.lists.y + 2, n, &mut y);
-    lesson_file::copy_words(file, layout.lists.next.at + 4, count, words);
+    lesson_file::copy_words(file, layout.lists.next.at + 4, layout.count, words);
     match sampler::sample(
         n,
         parameters.k,
         parameters.q,
         &x[..n],
         &y[..n],
-        &words[..count],
+        &words[..layout.count],
         0,
         out,
         work,

@@ -16,7 +16,7 @@ ghost use Rattle.polynomial.specs.Secrecy.{PolynomialSecrecy};
 
 // The sample of coefficient t, from the blocks t of x and y and that of the words, which begins at `start`, to block t of the output. Its rows are
 // left in the work area. Answers the position after the last word.
-// `&words[..]`: the words' address and length are then copied one by one, as they were stored, which is faster than both at once.
+// `&words[..]`: docs/DECISIONS.md, 'A slice is handed on by its parts'.
 fn write_coefficient(
     n: usize,
     k: usize,

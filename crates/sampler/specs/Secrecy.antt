@@ -8,7 +8,7 @@ use Rattle.residue.specs.Residue.{reduce, reduceℤ, total}
 use Rattle.checks.specs.Checks.{Outcome, accepted, checked}
 use Rattle.masking.specs.Sharing.{xorAll}
 use Rattle.masking.specs.Signed.{differenceOfWeights}
-use Rattle.secrecy.specs.Secrecy.{Full, inside, Indistinguishable, AgreeBut}
+use Rattle.secrecy.specs.Secrecy.{Full, between, Indistinguishable, AgreeBut}
 use Rattle.sampler.specs.Sampler.{Buffers, sampleWords, sampleShares, workLength, pairChecks, sampled}
 
 -- The n shares are those of the written steps; their residue is the weight of x less the weight of y, modulo q.
@@ -16,8 +16,8 @@ pub record SharesOf (n k q : ℕ) (x y words shares : List ℕ) : Type 0 where
   pub steps : shares ≡ sampleShares n k q x y words
   pub residue : reduce q (total shares) ≡ reduceℤ q (differenceOfWeights (xorAll x) (xorAll y))
 
--- The outcome of an accepted call whose words are the list `words`, from `start` on: the position after the last of them, which is W behind the
--- start, and shares of the call's own x and y.
+-- The outcome of an accepted call whose own words are the list `words`, which stands from `start` on: the position after it, and shares of the
+-- call's own x and y.
 pub record Samples (n k q : ℕ) (x y words : List ℕ) (start : ℕ) (o : Outcome ℕ Buffers) : Type 0 where
   pub end : o .answer ≡ accepted (start + sampleWords n k)
   pub shares : SharesOf n k q x y words (take n (o .buffers .out))
@@ -39,4 +39,4 @@ unfoldable pub Secrecy : ℕ → ℕ → ℕ → Type 0
 Secrecy n k q =
     (ℓ : ℕ) → ℓ < n → (x y x′ y′ : List ℕ) → checked (pairChecks n k q x y) ≡ accepted tt → checked (pairChecks n k q x′ y′) ≡ accepted tt
     → Indistinguishable (Full q (sampleWords n k)) (λ words words′. (before behind out work out′ work′ : List ℕ) → Room n (workLength n k) out work → Room n (workLength n k) out′ work′
-    → AlikeBut ℓ n k q (length before) x y words (sampled n k q x y (inside before words behind) (length before) out work) x′ y′ words′ (sampled n k q x′ y′ (inside before words′ behind) (length before) out′ work′))
+    → AlikeBut ℓ n k q (length before) x y words (sampled n k q x y (between before words behind) (length before) out work) x′ y′ words′ (sampled n k q x′ y′ (between before words′ behind) (length before) out′ work′))

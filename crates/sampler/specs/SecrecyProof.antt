@@ -7,11 +7,11 @@ use lib.ListN.{length}
 use Rattle.buffers.specs.Positions.{at, Same}
 use Rattle.buffers.specs.PositionLaws.{after-zero}
 use Rattle.checks.specs.Laws.{Hold, accepted-holds}
-use Rattle.secrecy.specs.Secrecy.{Full, inside, Indistinguishable, AgreeBut}
-use Rattle.secrecy.specs.Laws.{weaken, inside-taken, agree-front}
+use Rattle.secrecy.specs.Secrecy.{Full, between, Indistinguishable, AgreeBut}
+use Rattle.secrecy.specs.Laws.{weaken, between-taken, agree-front}
 use Rattle.secrecy.specs.Translation.{indistinguishable}
 use Rattle.conversion.specs.Conversion.{bitWords}
-use Rattle.conversion.specs.Arrays.{inside-drawn}
+use Rattle.conversion.specs.Arrays.{between-drawn}
 use Rattle.conversion.specs.Translation.{refreshWords}
 use Rattle.sampler.specs.Sampler.{sampleShare, sampleShares, sampleWords, workLength, pairChecks, sampled}
 use Rattle.sampler.specs.Secrecy.{Samples, Room, Secrecy}
@@ -41,10 +41,10 @@ shares-secrecy n (suc m) q ℓ large one l x y x′ y′ =
 
 -- a call on a full list between others
 module _ (n k q : ℕ) (x y : List ℕ) (h : Hold (pairChecks n k q x y)) (words : List ℕ) (f : Full q (sampleWords n k) words) (before behind out work : List ℕ) (r : Room n (workLength n k) out work) where
-  inside-samples : Samples n k q x y words (length before) (sampled n k q x y (inside before words behind) (length before) out work)
-  inside-samples =
-      rw (inside-taken f before behind) at (call-samples n k q x y (inside before words behind) (length before) out work
-      (fit-holds (pairChecks n k q x y) (length before) (sampleWords n k) q (inside before words behind) n (workLength n k) out work h (inside-drawn f before behind) r))
+  between-samples : Samples n k q x y words (length before) (sampled n k q x y (between before words behind) (length before) out work)
+  between-samples =
+      rw (between-taken f before behind) at (call-samples n k q x y (between before words behind) (length before) out work
+      (fit-holds (pairChecks n k q x y) (length before) (sampleWords n k) q (between before words behind) n (workLength n k) out work h (between-drawn f before behind) r))
 
 pub secrecy : (n k q : ℕ) → Secrecy n k q
 unfolding Secrecy
@@ -54,7 +54,7 @@ secrecy n k q ℓ l x y x′ y′ a a′ =
     let P = shared-pair n k q x y h in
     weaken
     (λ v w f g same before behind out work out′ work′ r r′.
-    let one = inside-samples n k q x y h v f before behind out work r in
-    let other = inside-samples n k q x′ y′ h′ w g before behind out′ work′ r′ in
+    let one = between-samples n k q x y h v f before behind out work r in
+    let other = between-samples n k q x′ y′ h′ w g before behind out′ work′ r′ in
     record { one = one; other = other; agree = agree-front ℓ n _ _ (one .shares .steps) (other .shares .steps) same })
     (shares-secrecy n k q ℓ (pair-large P) (P .one) l x y x′ y′)

@@ -66,7 +66,7 @@ fn write_shares(work: &[Word], n: usize, k: usize, q: Word, out: &mut [Word])
 
 // The sample of the strings whose shares stand in front of x and y, with the words from `start` on. The rows are left in the work area. Answers
 // the position after the last word.
-// `&words[..]`: the words' address and length are then copied one by one, as they were stored, which is faster than both at once.
+// `&words[..]`: docs/DECISIONS.md, 'A slice is handed on by its parts'.
 pub fn write_sample(
     n: usize,
     k: usize,

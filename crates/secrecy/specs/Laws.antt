@@ -5,7 +5,7 @@ use Prim.Native.Nat.{ℕ}
 use lib.ListN.{length, take, drop}
 use lib.Seq.{getD-take, take-at, drop-append-seam}
 use Rattle.buffers.specs.Positions.{at}
-use Rattle.secrecy.specs.Secrecy.{Full, inside, OneToOne, Indistinguishable, AgreeBut}
+use Rattle.secrecy.specs.Secrecy.{Full, between, OneToOne, Indistinguishable, AgreeBut}
 
 module _ {T : Type 0} {P : T → Type 0} where
   -- a map that another one undoes, on both sides
@@ -27,8 +27,8 @@ module _ {T : Type 0} {P : T → Type 0} where
   unmoved = record { map = λ w. w; one-to-one = undone-one-to-one (λ w p. p) (λ w p. p) (λ w p. refl) (λ w p. refl); alike = λ w p. refl }
 
 -- a full list between others
-pub inside-taken : {q W : ℕ} {ws : List ℕ} → Full q W ws → (before behind : List ℕ) → take W (drop (length before) (inside before ws behind)) ≡ ws
-inside-taken {q} {W} {ws} f before behind = ap (take W) (drop-append-seam before (ws ++ behind)) ∙ take-at ws behind W (f .count)
+pub between-taken : {q W : ℕ} {ws : List ℕ} → Full q W ws → (before behind : List ℕ) → take W (drop (length before) (between before ws behind)) ≡ ws
+between-taken {q} {W} {ws} f before behind = ap (take W) (drop-append-seam before (ws ++ behind)) ∙ take-at ws behind W (f .count)
 
 -- shares that stand in front of two outputs
 pub agree-front : (ℓ n : ℕ) (out out′ : List ℕ) {shares shares′ : List ℕ} → take n out ≡ shares → take n out′ ≡ shares′ → AgreeBut ℓ n shares shares′ → AgreeBut ℓ n out out′

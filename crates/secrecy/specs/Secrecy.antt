@@ -13,8 +13,8 @@ pub record Full (q W : ℕ) (ws : List ℕ) : Type 0 where
   pub below : EachBelow q ws
 
 -- The words of a call that starts behind `before`: a list of its own stands between others.
-abbrev pub inside : List ℕ → List ℕ → List ℕ → List ℕ
-inside before ws behind = before ++ (ws ++ behind)
+abbrev pub between : List ℕ → List ℕ → List ℕ → List ℕ
+between before ws behind = before ++ (ws ++ behind)
 
 -- A one-to-one map of the full lists (or whatever else P tells) onto themselves: the image of a full list is full, different ones have
 -- different images, and every full list is the image of one.
