@@ -67,6 +67,7 @@ test:
 	tests/lessons
 	tests/lesson_tool
 	tests/archive
+	tests/frames
 	tests/header
 	tests/install
 	tests/library

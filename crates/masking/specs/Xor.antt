@@ -6,7 +6,7 @@ use native.Mathlib.Nat.{zero-div}
 use native.Mathlib.Omega.{arith}
 use lib.Arith.{bin-ind}
 use lib.Bits.{bitXor, xor-add-and, xor-shr, xor-mod, xor-comm, xor-self, xor-zero-r, xor-lt}
-use lib.ListN.{length, take, drop, take-append-drop}
+use lib.ListN.{length}
 use lib.Pow.{pow-pos}
 use Rattle.residue.specs.Residue.{reduce, add, EachBelow}
 use Rattle.residue.specs.Laws.{add-assoc, add-reduce-left, add-reduce-right}
@@ -54,10 +54,6 @@ xorAll-append (x ∷ a) b = ap (bitXor x) (xorAll-append a b) ∙ sym (xor-assoc
 pub xorAll-one : (x : ℕ) → xorAll (x ∷ []) ≡ x
 unfolding xorAll
 xorAll-one x = xor-zero-r x
-
--- a list is opened by its parts
-pub xorAll-split : (h : ℕ) (l : List ℕ) → bitXor (xorAll (take h l)) (xorAll (drop h l)) ≡ xorAll l
-xorAll-split h l = sym (xorAll-append (take h l) (drop h l)) ∙ ap xorAll (take-append-drop h l)
 
 pub bit-xorAll : (t : ℕ) (l : List ℕ) → bit (xorAll l) t ≡ xorAll (table (length l) (λ i. bit (at l i) t))
 unfolding xorAll table

@@ -114,19 +114,16 @@ fn check_open_string(n: usize, k: usize, shares: &[u16]) -> Checked
     Checked::Passed
 }
 
-// The XOR of a list: a list of one is its word, a longer one is split at half its length.
+// The XOR of a list.
 fn xor_all(list: &[u16]) -> u16
     requires { ⌜ 0 < length (now list) ⌝ }
     ensures { λ r. ⌜ r ≡ xorAll (now (list .entry)) ⌝ }
 {
-    let n = list.len();
-    if n == 1 {
-        return list[0];
+    let mut all: u16 = 0;
+    for i in 0..list.len() {
+        all = all ^ list[i];
     }
-    let half = n / 2;
-    let a = xor_all(&list[..half]);
-    let b = xor_all(&list[half..]);
-    a ^ b
+    all
 }
 
 // Opens a Boolean sharing: the XOR of its n shares.
@@ -158,19 +155,16 @@ fn check_open_residue(n: usize, q: Word, shares: &[Word]) -> Checked
     Checked::Passed
 }
 
-// The sum of a list modulo q, by the same rule as the XOR.
+// The sum of a list modulo q.
 fn sum_all(list: &[Word], q: Word) -> Word
     requires { ⌜ (0 < length (now list)) × (0 < q) × (q < 2 ^ 31) × EachBelow q (now list) ⌝ }
     ensures { λ r. ⌜ r ≡ reduce q (total (now (list .entry))) ⌝ }
 {
-    let n = list.len();
-    if n == 1 {
-        return list[0];
+    let mut sum: Word = 0;
+    for t in 0..list.len() {
+        sum = residue::add_words(sum, list[t], q);
     }
-    let half = n / 2;
-    let a = sum_all(&list[..half], q);
-    let b = sum_all(&list[half..], q);
-    residue::add_words(a, b, q)
+    sum
 }
 
 // Opens an arithmetic sharing: the sum of its n shares modulo q.

@@ -7,19 +7,10 @@ use native.Mathlib.Nat as N
 use native.Mathlib.Decide.{decLt}
 use native.Mathlib.Numerals.{add-one}
 use native.Mathlib.Omega.{arith}
-use lib.ListN.{length, getD, take, drop, length-append, length-take, length-drop, take-append-drop, List·getD-append}
+use lib.ListN.{length, getD, take, drop, length-append, length-take, length-drop, List·getD-append}
 use lib.Seq.{getD-take, getD-drop, getD-append-add}
 use Rattle.residue.specs.Residue.{reduce, add, mul, neg, sub, sum, total, EachBelow}
 use Rattle.residue.specs.Laws.{reduce-zero, reduce-lt, reduce-reduce, reduce-plus, reduce-add, add-reduce-left, add-reduce-right, add-comm, add-assoc, add-left-comm, zero-add, add-zero, mul-add, mul-zero, neg-zero, neg-add}
-
-pub total-append : (a b : List ℕ) → total (a ++ b) ≡ total a + total b
-unfolding total
-total-append [] b = sym (N.zero-add (total b))
-total-append (x ∷ a) b = omega (arith, total-append a b)
-
-pub total-one : (a : ℕ) → total (a ∷ []) ≡ a
-unfolding total
-total-one a = N.add-zero a
 
 -- ---- a list in two parts
 
@@ -29,10 +20,6 @@ module _ (q h : ℕ) (l : List ℕ) where
 
   pub each-below-drop : EachBelow q l → EachBelow q (drop h l)
   each-below-drop r i m = rw (getD-drop h l i 0) (r (h + i) (omega (arith, length-drop h l)))
-
-  pub total-split : add q (reduce q (total (take h l))) (reduce q (total (drop h l))) ≡ reduce q (total l)
-  total-split =
-      rw (add-reduce-left, add-reduce-right) (sym (reduce-plus q (total (take h l)) (total (drop h l))) ∙ ap (reduce q) (sym (total-append (take h l) (drop h l)) ∙ ap total (take-append-drop h l)))
 
 pub each-below-append : (q : ℕ) (k l : List ℕ) → EachBelow q k → EachBelow q l → EachBelow q (k ++ l)
 each-below-append q k l a b i m = go (decLt i (length k))
