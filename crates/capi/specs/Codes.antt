@@ -9,8 +9,8 @@ use lib.ListN.{length}
 use Rattle.checks.specs.Checks.{Check, refused, verdict}
 use Rattle.checks.specs.Laws.{All, refusal-passes, settled-answer}
 use Rattle.masking.specs.Sharing.{maskChecks, masked, openStringChecks, openedString, openResidueChecks, openedResidue}
-use Rattle.masking.specs.Signed.{centreChecks, centred, weightChecks, weightDifference}
-use Rattle.masking.specs.Sets.{setChecks, parameterSet}
+use Rattle.binomial.specs.Signed.{centreChecks, centred, weightChecks, weightDifference}
+use Rattle.binomial.specs.Sets.{setChecks, parameterSet}
 use Rattle.conversion.specs.Conversion.{bitChecks, converted}
 use Rattle.sampler.specs.Sampler.{sampleChecks, sampled}
 use Rattle.polynomial.specs.Polynomial.{polynomialChecks, sampledPolynomial}

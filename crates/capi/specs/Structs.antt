@@ -2,7 +2,7 @@
 use Prim.Native.Nat.{ℕ}
 use lib.IntN.{ℤ, pos}
 use Rattle.checks.specs.Checks.{Verdict, accepted, refused, Outcome}
-use Rattle.masking.specs.declared.ParameterSet.{ParameterSet}
+use Rattle.binomial.specs.declared.ParameterSet.{ParameterSet}
 use Rattle.capi.specs.declared.TpAnswer.{TpAnswer}
 use Rattle.capi.specs.declared.TpOpenedString.{TpOpenedString}
 use Rattle.capi.specs.declared.TpOpenedResidue.{TpOpenedResidue}

@@ -1,18 +1,18 @@
 // The calls for C, as include/tinplateau.h declares them. A slice is a pointer and a length there.
+use binomial::SetAnswer;
+use binomial::SignedAnswer;
 use checks::Answer;
 use masking::OpenedResidue;
 use masking::OpenedString;
 use masking::ResidueAnswer;
-use masking::SetAnswer;
-use masking::SignedAnswer;
 use masking::StringAnswer;
 use residue::Word;
 ghost use mathlib.Core.Path.{_≡_};
 ghost use Rattle.checks.specs.Answers.{answerReading};
-ghost use Rattle.masking.specs.Answers.{signedReading};
 ghost use Rattle.masking.specs.Sharing.{masked, openedString, openedResidue};
-ghost use Rattle.masking.specs.Signed.{centred, weightDifference};
-ghost use Rattle.masking.specs.Sets.{parameterSet};
+ghost use Rattle.binomial.specs.Answers.{signedReading};
+ghost use Rattle.binomial.specs.Signed.{centred, weightDifference};
+ghost use Rattle.binomial.specs.Sets.{parameterSet};
 ghost use Rattle.conversion.specs.Conversion.{converted};
 ghost use Rattle.conversion.specs.Secrecy.{BitSecrecy};
 ghost use Rattle.sampler.specs.Sampler.{both, sampled};
@@ -152,21 +152,21 @@ pub extern "C" fn tp_open_residue(n: usize, q: Word, shares: &[Word]) -> TpOpene
 pub extern "C" fn tp_centred(q: Word, r: TpResidue) -> TpSigned
     ensures { λ z. ⌜ z ≡ signedOf (centred q (r .value)) ⌝ }
 {
-    signed(masking::centre(q, OpenedResidue(r.value)))
+    signed(binomial::centre(q, OpenedResidue(r.value)))
 }
 
 #[no_mangle]
 pub extern "C" fn tp_weight_difference(k: usize, x: TpString, y: TpString) -> TpSigned
     ensures { λ z. ⌜ z ≡ signedOf (weightDifference k (x .bits) (y .bits)) ⌝ }
 {
-    signed(masking::weight_difference(k, OpenedString(x.bits), OpenedString(y.bits)))
+    signed(binomial::weight_difference(k, OpenedString(x.bits), OpenedString(y.bits)))
 }
 
 #[no_mangle]
 pub extern "C" fn tp_parameter_set(number: usize) -> TpParameters
     ensures { λ r. ⌜ r ≡ parametersOf (parameterSet number) ⌝ }
 {
-    match masking::parameter_set(number) {
+    match binomial::parameter_set(number) {
         SetAnswer::Set(s) => TpParameters {
             code: 0,
             k: s.k,

@@ -11,7 +11,7 @@ use Rattle.buffers.specs.Positions.{table}
 use Rattle.checks.specs.Search.{firstFrom}
 use Rattle.checks.specs.Checks.{Verdict, accepted, refused, verdict, Outcome}
 use Rattle.masking.specs.Sharing.{xorAll, maskShares, masked, openedResidue}
-use Rattle.masking.specs.Signed.{centred}
+use Rattle.binomial.specs.Signed.{centred}
 use Rattle.conversion.specs.Conversion.{pairs, extend, lessTwice, xorBit, xorShare, convert, transfer, refreshShare, refreshFrom, convertBit}
 use Rattle.sampler.specs.Sampler.{Buffers, both, row, stringShare, sampleShare, sampleShares, sampled}
 

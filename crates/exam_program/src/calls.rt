@@ -1,10 +1,10 @@
 // A line for each call: the value's letter, the call, and what the library gives.
 use crate::print;
+use binomial::SignedAnswer;
 use checks::Answer;
 use masking::OpenedResidue;
 use masking::OpenedString;
 use masking::ResidueAnswer;
-use masking::SignedAnswer;
 use masking::StringAnswer;
 use residue::Word;
 
@@ -49,7 +49,7 @@ fn print_sample(count: usize, n: usize, q: Word, shares: &[Word]) {
 }
 
 fn print_centred(name: &[u8], q: Word, r: OpenedResidue) {
-    match masking::centre(q, r) {
+    match binomial::centre(q, r) {
         SignedAnswer::Value(z) => print::signed(name, z),
         SignedAnswer::Refused(f) => print::refused(f),
     }

@@ -1,11 +1,11 @@
 // The exact distribution of the sample over all pairs of strings of k bits, for the parameter sets of FIPS 203. Each pair is masked, sampled,
 // opened and centred in three shares. The lists have room for k up to 16.
 use crate::print;
+use binomial::SetAnswer;
+use binomial::SignedAnswer;
 use checks::Answer;
 use masking::OpenedString;
 use masking::ResidueAnswer;
-use masking::SetAnswer;
-use masking::SignedAnswer;
 use residue::Word;
 ghost use Prim.Native.Nat.{_≤_, _<_};
 
@@ -47,7 +47,7 @@ fn sample(k: usize, q: Word, x: &[u16; 3], y: &[u16; 3], words: &[Word; 192]) ->
         return SignedAnswer::Refused(r);
     }
     match masking::open_residue(3, q, &out) {
-        ResidueAnswer::Opened(r) => masking::centre(q, r),
+        ResidueAnswer::Opened(r) => binomial::centre(q, r),
         ResidueAnswer::Refused(r) => SignedAnswer::Refused(r),
     }
 }
@@ -144,7 +144,7 @@ fn distribution(k: usize, q: Word)
 
 pub fn print_set(number: usize) {
     print::field(b"fips203 set", number);
-    match masking::parameter_set(number) {
+    match binomial::parameter_set(number) {
         SetAnswer::Set(s) => distribution(s.k, s.q),
         SetAnswer::Refused(r) => print::refused(r),
     }

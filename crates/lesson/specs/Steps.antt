@@ -4,7 +4,7 @@ use Prim.Native.Nat.{ℕ, _≤_}
 use lib.ListN.{length, take}
 use Rattle.residue.specs.Residue.{reduce, total, EachBelow}
 use Rattle.checks.specs.Checks.{Verdict, accepted, refused, verdict, Outcome, settled}
-use Rattle.masking.specs.Signed.{centredValue}
+use Rattle.binomial.specs.Signed.{centredValue}
 use Rattle.sampler.specs.Sampler.{sampleWords}
 use Rattle.lesson_file.specs.Records.{layoutRead, sampleOf}
 use Rattle.lesson_file.specs.declared.Layout.{Layout}

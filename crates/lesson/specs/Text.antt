@@ -3,7 +3,7 @@ use mathlib.Core.List.{List, [], _∷_, _++_, map}
 use Prim.Native.Nat.{ℕ, suc, _+_}
 use lib.IntN.{ℤ}
 use Rattle.masking.specs.Sharing.{xorAll}
-use Rattle.masking.specs.Signed.{differenceOfWeights}
+use Rattle.binomial.specs.Signed.{differenceOfWeights}
 use Rattle.sampler.specs.Sampler.{sampleWords, sampleShares}
 use Rattle.text.specs.Ascii.{ascii}
 use Rattle.lesson_file.specs.Records.{Sample}

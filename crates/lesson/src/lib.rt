@@ -1,6 +1,7 @@
 // The text that the lesson program prints (document 01, 'Lesson files and the lesson program').
 mod lines;
 
+use binomial::SignedAnswer;
 use checks::Answer;
 use checks::Checked;
 use checks::Refusal;
@@ -9,7 +10,6 @@ use lesson_file::Layout;
 use lesson_file::Parameters;
 use lesson_file::SampleRead;
 use masking::ResidueAnswer;
-use masking::SignedAnswer;
 use residue::Word;
 ghost use mathlib.Core.Path.{_≡_};
 ghost use Prim.Native.Nat.{_+_, _≤_};
@@ -17,7 +17,7 @@ ghost use lib.ListN.{length, take};
 ghost use Rattle.residue.specs.Residue.{reduce, total, EachBelow};
 ghost use Rattle.checks.specs.Checks.{checked};
 ghost use Rattle.checks.specs.Answers.{checkedReading, outcome};
-ghost use Rattle.masking.specs.Signed.{centredValue};
+ghost use Rattle.binomial.specs.Signed.{centredValue};
 ghost use Rattle.text.specs.Text.{Wrote};
 ghost use Rattle.lesson.specs.Lesson.{lesson, lessonFrom, recordOf};
 ghost use Rattle.lesson.specs.Text.{linesFrom, lessonText};
@@ -120,7 +120,7 @@ fn open_sample(n: usize, q: Word, shares: &[Word]) -> i32
     ensures { λ r. ⌜ r ≡ centredValue q (reduce q (total (now (shares .entry)))) ⌝ }
 {
     if let ResidueAnswer::Opened(residue) = masking::open_residue(n, q, shares) {
-        if let SignedAnswer::Value(value) = masking::centre(q, residue) {
+        if let SignedAnswer::Value(value) = binomial::centre(q, residue) {
             return value;
         }
     }

@@ -1,9 +1,4 @@
 pub mod Sharing
-pub mod Signed
-pub mod Sets
 pub mod Answers
 pub mod Xor
 pub mod MaskOpen
-pub mod Weight
-pub mod Centring
-pub mod SetsFit

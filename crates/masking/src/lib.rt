@@ -1,4 +1,4 @@
-// Boolean and arithmetic sharings: making and opening them, reading what was opened, and the published parameter sets.
+// Boolean and arithmetic sharings: making and opening them.
 // A refused call changes nothing.
 use checks::Answer;
 use checks::Checked;
@@ -13,21 +13,13 @@ ghost use Rattle.buffers.specs.Overwrite.{overwrite};
 ghost use Rattle.checks.specs.Checks.{checked};
 ghost use Rattle.checks.specs.Answers.{checkedReading, outcome};
 ghost use Rattle.masking.specs.Sharing.{xorAll, maskShares, maskChecks, masked, openStringChecks, openedString, openResidueChecks, openedResidue};
-ghost use Rattle.masking.specs.Signed.{centredValue, centreChecks, centred, weight, weightChecks, weightDifference};
-ghost use Rattle.masking.specs.Sets.{parameterSet};
-ghost use Rattle.masking.specs.Answers.{stringReading, residueReading, signedReading, setReading};
+ghost use Rattle.masking.specs.Answers.{stringReading, residueReading};
 
 // The string that a Boolean sharing holds, opened.
 pub struct OpenedString(pub u16);
 
 // The residue that an arithmetic sharing holds, opened.
 pub struct OpenedResidue(pub Word);
-
-// A string length k and a modulus q.
-pub struct ParameterSet {
-    pub k: usize,
-    pub q: Word,
-}
 
 pub enum StringAnswer {
     Opened(OpenedString),
@@ -36,16 +28,6 @@ pub enum StringAnswer {
 
 pub enum ResidueAnswer {
     Opened(OpenedResidue),
-    Refused(Refusal),
-}
-
-pub enum SignedAnswer {
-    Value(i32),
-    Refused(Refusal),
-}
-
-pub enum SetAnswer {
-    Set(ParameterSet),
     Refused(Refusal),
 }
 
@@ -176,100 +158,4 @@ pub fn open_residue(n: usize, q: Word, shares: &[Word]) -> ResidueAnswer
         return ResidueAnswer::Refused(r);
     }
     ResidueAnswer::Opened(OpenedResidue(sum_all(shares, q)))
-}
-
-fn check_centre(q: Word, r: Word) -> Checked
-    ensures { λ c. ⌜ checkedReading c ≡ checked (centreChecks q r) ⌝ }
-{
-    if q < 3 {
-        return checks::refuse(checks::MODULUS, 0);
-    }
-    if r >= q {
-        return checks::refuse(checks::RESIDUE_RANGE, 0);
-    }
-    Checked::Passed
-}
-
-fn centred_value(q: Word, r: Word) -> i32
-    requires { ⌜ r < q ⌝ }
-    ensures { λ z. ⌜ z ≡ centredValue q r ⌝ }
-{
-    if 2 * residue::widen(r) < residue::widen(q) {
-        residue::difference(r, 0)
-    } else {
-        residue::difference(r, q)
-    }
-}
-
-// The centred value of a residue: r where 2r is below q, else r - q.
-// Refuses 3 (q below 3), 17.
-pub fn centre(q: Word, opened: OpenedResidue) -> SignedAnswer
-    ensures { λ z. ⌜ signedReading z ≡ centred q (opened .0) ⌝ }
-{
-    let r = opened.0;
-    if let Checked::Failed(f) = check_centre(q, r) {
-        return SignedAnswer::Refused(f);
-    }
-    SignedAnswer::Value(centred_value(q, r))
-}
-
-fn check_weights(k: usize, x: u16, y: u16) -> Checked
-    ensures { λ r. ⌜ checkedReading r ≡ checked (weightChecks k x y) ⌝ }
-{
-    if !checks::within(1, 16, k) {
-        return checks::refuse(checks::STRING_LENGTH, 0);
-    }
-    if !checks::is_narrow(x, k) {
-        return checks::refuse(checks::VALUE_WIDTH, 0);
-    }
-    if !checks::is_narrow(y, k) {
-        return checks::refuse(checks::VALUE_WIDTH, 1);
-    }
-    Checked::Passed
-}
-
-fn weight(x: u16) -> u16
-    ensures { λ r. ⌜ r ≡ weight x ⌝ }
-{
-    u16::count_ones(x) as u16
-}
-
-// The weight of x less the weight of y.
-// Refuses 2, 12 with position 0 for x and 1 for y.
-pub fn weight_difference(k: usize, x: OpenedString, y: OpenedString) -> SignedAnswer
-    ensures { λ z. ⌜ signedReading z ≡ weightDifference k (x .0) (y .0) ⌝ }
-{
-    let a = x.0;
-    let b = y.0;
-    if let Checked::Failed(f) = check_weights(k, a, b) {
-        return SignedAnswer::Refused(f);
-    }
-    let wx = residue::from_u16(weight(a));
-    let wy = residue::from_u16(weight(b));
-    SignedAnswer::Value(residue::difference(wx, wy))
-}
-
-// ML-KEM (FIPS 203) twice, NewHope twice, the Saber family three times.
-const SETS: [ParameterSet; 7] = [
-    ParameterSet { k: 2, q: 3329 },
-    ParameterSet { k: 3, q: 3329 },
-    ParameterSet { k: 8, q: 12289 },
-    ParameterSet { k: 16, q: 12289 },
-    ParameterSet { k: 5, q: 8192 },
-    ParameterSet { k: 4, q: 8192 },
-    ParameterSet { k: 3, q: 8192 },
-];
-
-// The published parameter set of a number from 1 to 7.
-// Refuses 22.
-pub fn parameter_set(number: usize) -> SetAnswer
-    ensures { λ r. ⌜ setReading r ≡ parameterSet number ⌝ }
-{
-    if !checks::within(1, 7, number) {
-        return SetAnswer::Refused(Refusal {
-            code: checks::SET_NUMBER,
-            position: 0,
-        });
-    }
-    SetAnswer::Set(SETS[number - 1])
 }

@@ -12,7 +12,7 @@ use Rattle.buffers.specs.Blocks.{block-front, block-rows}
 use Rattle.checks.specs.Checks.{Outcome, accepted}
 use Rattle.checks.specs.Laws.{Hold}
 use Rattle.masking.specs.Sharing.{xorAll, openedResidue}
-use Rattle.masking.specs.Signed.{differenceOfWeights, centred, weightDifference}
+use Rattle.binomial.specs.Signed.{differenceOfWeights, centred, weightDifference}
 use Rattle.sampler.specs.Sampler.{Buffers, both, sampleShares, sampleWords, workLength}
 use Rattle.sampler.specs.Secrecy.{SharesOf}
 use Rattle.sampler.specs.Accepted.{SharedPair, shared-pair}

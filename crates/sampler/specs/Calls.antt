@@ -15,7 +15,7 @@ use Rattle.buffers.specs.PositionLaws.{length-table, table-at, table-below, tab
 use Rattle.checks.specs.Checks.{Outcome, accepted}
 use Rattle.checks.specs.Laws.{Hold}
 use Rattle.masking.specs.Sharing.{xorAll}
-use Rattle.masking.specs.Signed.{weight, differenceOfWeights}
+use Rattle.binomial.specs.Signed.{weight, differenceOfWeights}
 use Rattle.sampler.specs.Sampler.{Buffers, both, sampleShare, sampleShares, sampleWords, workLength, pairChecks, sampleChecks, sharesWritten, sampled}
 use Rattle.sampler.specs.Secrecy.{SharesOf, Samples}
 use Rattle.sampler.specs.Laws.{share-lt, share-local, share-sum}

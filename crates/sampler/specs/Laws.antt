@@ -11,9 +11,9 @@ use Rattle.residue.specs.Sum.{sum-cong, sum-reduce, sum-add, sum-neg, sum-swap}
 use Rattle.buffers.specs.Positions.{at, after, Same, Below}
 use Rattle.checks.specs.Width.{bit, bit-lt}
 use Rattle.masking.specs.Sharing.{xorAll}
-use Rattle.masking.specs.Signed.{weight}
-use Rattle.masking.specs.Weight.{sum-bits, weight-bits}
 use Rattle.masking.specs.Xor.{xorAll-lt, bit-xorAll}
+use Rattle.binomial.specs.Signed.{weight}
+use Rattle.binomial.specs.Weight.{sum-bits, weight-bits}
 use Rattle.conversion.specs.Conversion.{bitsAt, bitWords}
 use Rattle.conversion.specs.Laws.{convertBit-lt, convertBit-local, convertBit-sum}
 use Rattle.sampler.specs.Sampler.{row, stringShare, sampleShare, sampleWords}

@@ -10,10 +10,10 @@ use Rattle.residue.specs.Integers.{minus-le}
 use Rattle.checks.specs.Checks.{accepted, isNone}
 use Rattle.checks.specs.Laws.{Hold, accepts, each-below-none}
 use Rattle.masking.specs.Sharing.{xorAll, openResidueChecks, openedResidue, openStringChecks, openedString}
-use Rattle.masking.specs.Signed.{weight, differenceOfWeights, centredValue, centred, weightChecks, weightDifference}
-use Rattle.masking.specs.Weight.{weight-le}
 use Rattle.masking.specs.Xor.{xorAll-lt}
-use Rattle.masking.specs.Centring.{centred-value, centred-sample}
+use Rattle.binomial.specs.Signed.{weight, differenceOfWeights, centredValue, centred, weightChecks, weightDifference}
+use Rattle.binomial.specs.Weight.{weight-le}
+use Rattle.binomial.specs.Centring.{centred-value, centred-sample}
 use Rattle.sampler.specs.Sampler.{sampleShares, pairChecks, sampleChecks, sampled}
 use Rattle.sampler.specs.Secrecy.{SharesOf}
 use Rattle.sampler.specs.Accepted.{SharedPair, pair-large, shared-pair, call-checks}

@@ -7,7 +7,7 @@ use lib.ListN.{length, take}
 use Rattle.residue.specs.Residue.{reduce, reduceℤ, total}
 use Rattle.checks.specs.Checks.{Outcome, accepted, checked}
 use Rattle.masking.specs.Sharing.{xorAll}
-use Rattle.masking.specs.Signed.{differenceOfWeights}
+use Rattle.binomial.specs.Signed.{differenceOfWeights}
 use Rattle.secrecy.specs.Secrecy.{Full, between, Indistinguishable, AgreeBut}
 use Rattle.sampler.specs.Sampler.{Buffers, sampleWords, sampleShares, workLength, pairChecks, sampled}
 

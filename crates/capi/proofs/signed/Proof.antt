@@ -2,7 +2,7 @@
 use Rattle.checks.specs.Checks.{accepted}
 use mir.Facts.{toZ-ofZ}
 use Rattle.capi.specs.Structs.{signedOf}
-use Rattle.masking.specs.Answers.{signedReading}
+use Rattle.binomial.specs.Answers.{signedReading}
 use mathlib.Core.Path.{sym, ap, _∙_}
 use borrow.Author.Needs.{needs, sfits-of}
 use Rattle.capi.proofs.signed.Statement.{statement}

@@ -1,6 +1,6 @@
 -- The call's own verdict, each case as a struct.
 use Rattle.capi.specs.Structs.{parametersOf}
-use Rattle.masking.specs.Answers.{setReading}
+use Rattle.binomial.specs.Answers.{setReading}
 use mathlib.Core.Path.{sym, ap, _∙_}
 use borrow.Author.Needs.{needs}
 use Rattle.capi.proofs.tp_parameter_set.Statement.{statement}

@@ -8,8 +8,9 @@ use Rattle.residue.specs.Laws.{reduce-lt}
 use Rattle.checks.specs.Checks.{accepted, isNone}
 use Rattle.checks.specs.Laws.{true-within, not-both, same-answer, accepts, each-below-none}
 use Rattle.masking.specs.Sharing.{openResidueChecks, openedResidue}
-use Rattle.masking.specs.Signed.{centredValue, centreChecks, centred}
-use Rattle.masking.specs.Answers.{residueReading, signedReading}
+use Rattle.masking.specs.Answers.{residueReading}
+use Rattle.binomial.specs.Signed.{centredValue, centreChecks, centred}
+use Rattle.binomial.specs.Answers.{signedReading}
 use borrow.Author.Needs.{needs, sfits-of}
 use Rattle.lesson.proofs.open_sample.Statement.{statement}
 use Rattle.lesson.proofs.open_sample.Tie as tie

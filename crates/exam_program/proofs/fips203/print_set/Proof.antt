@@ -3,10 +3,10 @@ use mathlib.Core.Path.{_≡_, sym, ap, _∙_}
 use Prim.Native.Nat.{ℕ, _≤_}
 use Rattle.checks.specs.Checks.{accepted}
 use Rattle.checks.specs.Laws.{within-true}
-use Rattle.masking.specs.declared.ParameterSet.{ParameterSet}
-use Rattle.masking.specs.Sets.{parameterSet}
-use Rattle.masking.specs.SetsFit.{sets-fit}
-use Rattle.masking.specs.Answers.{setReading}
+use Rattle.binomial.specs.declared.ParameterSet.{ParameterSet}
+use Rattle.binomial.specs.Sets.{parameterSet}
+use Rattle.binomial.specs.SetsFit.{sets-fit}
+use Rattle.binomial.specs.Answers.{setReading}
 use borrow.Author.Needs.{needs}
 use Rattle.exam_program.proofs.fips203.print_set.Statement.{statement}
 use Rattle.exam_program.proofs.fips203.print_set.Tie as tie

@@ -3,10 +3,10 @@ use mathlib.Core.Path.{sym}
 use Prim.Native.Nat.{_≤_}
 use native.Mathlib.Omega.{arith}
 use Rattle.checks.specs.Laws.{within-true, fail, accepts, test-holds, test-fails}
-use Rattle.masking.specs.Sets.{sets, parameterSet}
+use Rattle.binomial.specs.Sets.{sets, parameterSet}
 use borrow.Author.Needs.{needs}
-use Rattle.masking.proofs.parameter_set.Statement.{statement}
-use Rattle.masking.proofs.parameter_set.Tie as tie
+use Rattle.binomial.proofs.parameter_set.Statement.{statement}
+use Rattle.binomial.proofs.parameter_set.Tie as tie
 
 within-requires : tie.Need-within-requires
 within-requires c κs = search needs

@@ -4,10 +4,10 @@ use borrow.Author.Tests.{ltb-true}
 use Rattle.residue.proofs.Signed.{read-back}
 use Rattle.checks.specs.Checks.{accepted}
 use Rattle.checks.specs.Laws.{checks-hold, checks-passed, checks-failed}
-use Rattle.masking.specs.Signed.{centred}
+use Rattle.binomial.specs.Signed.{centred}
 use borrow.Author.Needs.{needs}
-use Rattle.masking.proofs.centre.Statement.{statement}
-use Rattle.masking.proofs.centre.Tie as tie
+use Rattle.binomial.proofs.centre.Statement.{statement}
+use Rattle.binomial.proofs.centre.Tie as tie
 
 check-centre-requires : tie.Need-check-centre-requires
 check-centre-requires c κs = search needs

@@ -3,7 +3,7 @@ use mathlib.Core.List.{List, [], _∷_}
 use Prim.Native.Nat.{ℕ, _-_}
 use lib.ListN.{getD}
 use Rattle.checks.specs.Checks.{Check, Verdict, verdict, within}
-use Rattle.masking.specs.declared.ParameterSet.{ParameterSet}
+use Rattle.binomial.specs.declared.ParameterSet.{ParameterSet}
 
 abbrev pub set : ℕ → ℕ → ParameterSet
 set k q = record { k = k; q = q }

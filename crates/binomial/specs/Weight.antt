@@ -8,7 +8,7 @@ use Rattle.residue.specs.Residue.{reduce, add, sum}
 use Rattle.residue.specs.Laws.{reduce-zero, reduce-plus, add-reduce-left}
 use Rattle.residue.specs.Sum.{sum-last}
 use Rattle.checks.specs.Width.{bit, bit-lowest, bit-shift}
-use Rattle.masking.specs.Signed.{bitSum, weight}
+use Rattle.binomial.specs.Signed.{bitSum, weight}
 
 -- the lowest bit, and those of the half
 bitSum-half : (k x : ℕ) → bitSum (suc k) x ≡ x % 2 + bitSum k (x / 2)

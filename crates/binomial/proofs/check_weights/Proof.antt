@@ -4,9 +4,9 @@ use mathlib.Core.List.{List}
 use borrow.Author.Needs.{needs}
 use Rattle.checks.specs.Checks.{Check}
 use Rattle.checks.specs.Laws.{Past, pass, fail, pass-all, test-holds, test-fails}
-use Rattle.masking.specs.Signed.{weightChecks}
-use Rattle.masking.proofs.check_weights.Statement.{statement}
-use Rattle.masking.proofs.check_weights.Tie as tie
+use Rattle.binomial.specs.Signed.{weightChecks}
+use Rattle.binomial.proofs.check_weights.Statement.{statement}
+use Rattle.binomial.proofs.check_weights.Tie as tie
 
 abbrev checks : tie.Start → List Check
 checks s = weightChecks (s .args .k) (s .args .x) (s .args .y)

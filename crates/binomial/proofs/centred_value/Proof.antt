@@ -6,8 +6,8 @@ use borrow.Author.Tests.{lt-ltb, le-ltb}
 use Rattle.residue.proofs.Signed.{read-back}
 use Rattle.residue.specs.Integers.{minus-zero}
 use borrow.Author.Needs.{needs}
-use Rattle.masking.proofs.centred_value.Statement.{statement}
-use Rattle.masking.proofs.centred_value.Tie as tie
+use Rattle.binomial.proofs.centred_value.Statement.{statement}
+use Rattle.binomial.proofs.centred_value.Tie as tie
 
 widen-requires : tie.Need-widen-requires
 widen-requires c κs = search needs

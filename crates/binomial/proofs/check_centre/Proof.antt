@@ -5,9 +5,9 @@ use borrow.Author.Tests.{le-leb, lt-leb, lt-ltb, le-ltb}
 use borrow.Author.Needs.{needs}
 use Rattle.checks.specs.Checks.{Check}
 use Rattle.checks.specs.Laws.{Past, pass, fail, pass-all}
-use Rattle.masking.specs.Signed.{centreChecks}
-use Rattle.masking.proofs.check_centre.Statement.{statement}
-use Rattle.masking.proofs.check_centre.Tie as tie
+use Rattle.binomial.specs.Signed.{centreChecks}
+use Rattle.binomial.proofs.check_centre.Statement.{statement}
+use Rattle.binomial.proofs.check_centre.Tie as tie
 
 abbrev checks : tie.Start → List Check
 checks s = centreChecks (s .args .q) (s .args .r)

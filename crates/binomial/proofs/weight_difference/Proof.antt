@@ -5,10 +5,10 @@ use lib.IntN.{pos, _-ℤ_}
 use Rattle.residue.proofs.Signed.{read-back}
 use Rattle.checks.specs.Checks.{accepted}
 use Rattle.checks.specs.Laws.{checks-passed, checks-failed}
-use Rattle.masking.specs.Signed.{weightDifference}
+use Rattle.binomial.specs.Signed.{weightDifference}
 use borrow.Author.Needs.{needs}
-use Rattle.masking.proofs.weight_difference.Statement.{statement}
-use Rattle.masking.proofs.weight_difference.Tie as tie
+use Rattle.binomial.proofs.weight_difference.Statement.{statement}
+use Rattle.binomial.proofs.weight_difference.Tie as tie
 
 check-weights-requires : tie.Need-check-weights-requires
 check-weights-requires c κs = search needs

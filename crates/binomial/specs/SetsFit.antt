@@ -8,8 +8,8 @@ use native.Mathlib.Omega.{arith}
 use lib.ListN.{length, getD}
 use Rattle.checks.specs.Checks.{accepted, stringLength, modulusAtLeast}
 use Rattle.checks.specs.Laws.{Hold, accepts, accepted-holds, within-true, and-true}
-use Rattle.masking.specs.declared.ParameterSet.{ParameterSet}
-use Rattle.masking.specs.Sets.{set, sets, setChecks, parameterSet}
+use Rattle.binomial.specs.declared.ParameterSet.{ParameterSet}
+use Rattle.binomial.specs.Sets.{set, sets, setChecks, parameterSet}
 
 abbrev pub fits : ParameterSet → Bool
 fits s = stringLength (s .k) .holds && modulusAtLeast (2 * s .k + 1) (s .q) .holds

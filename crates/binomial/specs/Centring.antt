@@ -9,7 +9,7 @@ use Rattle.residue.specs.Laws.{reduce-small, reduce-lt, reduce-neg, neg-small}
 use Rattle.residue.specs.Integers.{minus-below}
 use Rattle.checks.specs.Checks.{accepted}
 use Rattle.checks.specs.Laws.{accepts}
-use Rattle.masking.specs.Signed.{centredValue, centreChecks, centred}
+use Rattle.binomial.specs.Signed.{centredValue, centreChecks, centred}
 
 module _ (k q : ℕ) (h : 2 * k + 1 ≤ q) where
   -- for a sample z from -k to k, at any q of at least 2k + 1
