@@ -1,4 +1,5 @@
-// What is read off opened values, the centred value of a residue and the weight difference of two strings; and the published parameter sets.
+// The binomial sample unmasked, which is the weight difference of two opened strings; the centred value of an opened residue; the published
+// parameter sets.
 use checks::Checked;
 use checks::Refusal;
 use masking::OpenedResidue;
