@@ -142,11 +142,11 @@ fn sum_all(list: &[Word], q: Word) -> Word
     requires { ⌜ (0 < length (now list)) × (0 < q) × (q < 2 ^ 31) × EachBelow q (now list) ⌝ }
     ensures { λ r. ⌜ r ≡ reduce q (total (now (list .entry))) ⌝ }
 {
-    let mut total: Word = 0;
+    let mut sum: Word = 0;
     for t in 0..list.len() {
-        total = residue::add_words(total, list[t], q);
+        sum = residue::add_words(sum, list[t], q);
     }
-    total
+    sum
 }
 
 // Opens an arithmetic sharing: the sum of its n shares modulo q.
