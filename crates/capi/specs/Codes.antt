@@ -5,7 +5,7 @@ use mathlib.Core.List.{List}
 use Prim.Native.Nat.{ℕ, _<_}
 use borrow.Author.Tests.{ltb-true}
 use lib.Dec.{ltb}
-use lib.ListN.{length}
+use lib.ListN.{length, replicate}
 use Rattle.checks.specs.Checks.{Check, refused, verdict}
 use Rattle.checks.specs.Laws.{All, refusal-passes, settled-answer}
 use Rattle.masking.specs.Sharing.{maskChecks, masked, openStringChecks, openedString, openResidueChecks, openedResidue}
@@ -14,8 +14,10 @@ use Rattle.binomial.specs.Sets.{setChecks, parameterSet}
 use Rattle.conversion.specs.Conversion.{bitChecks, converted}
 use Rattle.sampler.specs.Sampler.{sampleChecks, sampled}
 use Rattle.polynomial.specs.Polynomial.{polynomialChecks, sampledPolynomial}
-use Rattle.lesson.specs.Call.{callChecks, textWritten}
-use Rattle.capi.specs.LessonText.{lessonTextWritten}
+use Rattle.lesson_samples.specs.Call.{callChecks, pieceWritten}
+use Rattle.lesson.specs.Text.{lessonText, textRoom}
+use Rattle.report.specs.Report.{reportText}
+use Rattle.capi.specs.FileText.{lessonTextWritten, reportTextWritten}
 
 abbrev isNumbered : ℕ → ℕ → Bool
 isNumbered code position = ltb 0 code
@@ -60,6 +62,13 @@ module _ (code position : ℕ) where
   unfolding sampledPolynomial
   sample-polynomial-code n k q m x y words out work e = numbered _ (polynomialChecks n k q m x y words (length out) (length work)) refl (sym (settled-answer _ _ _) ∙ e)
 
+  -- the calls that write a text about a lesson file ask the same of their buffers
+  text-code : (room : ℕ) (piece file words text : List ℕ) → pieceWritten room piece file words (replicate 8 0) (replicate 256 0) text .answer ≡ refused code position → 0 < code
+  unfolding pieceWritten
+  text-code room piece file words text e = numbered _ (callChecks room (length words) 8 256 (length text)) refl (sym (settled-answer _ _ _) ∙ e)
+
   pub lesson-text-code : (file words text : List ℕ) → lessonTextWritten file words text .answer ≡ refused code position → 0 < code
-  unfolding textWritten
-  lesson-text-code file words text e = numbered _ (callChecks (length file) (length words) 8 256 (length text)) refl (sym (settled-answer _ _ _) ∙ e)
+  lesson-text-code file words text = text-code (textRoom (length file)) (lessonText file) file words text
+
+  pub report-text-code : (file words text : List ℕ) → reportTextWritten file words text .answer ≡ refused code position → 0 < code
+  report-text-code file words text = text-code 1200 (reportText file) file words text

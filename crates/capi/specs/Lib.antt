@@ -1,4 +1,4 @@
 pub mod Structs
-pub mod LessonText
+pub mod FileText
 pub mod Codes
 pub mod Laws

@@ -20,7 +20,7 @@ ghost use Rattle.sampler.specs.Secrecy.{Secrecy};
 ghost use Rattle.polynomial.specs.Polynomial.{sampledPolynomial};
 ghost use Rattle.polynomial.specs.Secrecy.{PolynomialSecrecy};
 ghost use Rattle.capi.specs.Structs.{answerOf, stringOf, residueOf, signedOf, parametersOf, returned, answered};
-ghost use Rattle.capi.specs.LessonText.{wordsAndText, lessonTextWritten};
+ghost use Rattle.capi.specs.FileText.{wordsAndText, lessonTextWritten, reportTextWritten};
 
 // Code 0 and the count, or the number and the position of a refusal.
 #[repr(C)]
@@ -240,4 +240,14 @@ pub extern "C" fn tp_lesson_text(file: &[u8], words: &mut [Word], text: &mut [u8
     let mut out: [Word; 8] = [0; 8];
     let mut work: [Word; 256] = [0; 256];
     answer(lesson::write_text(file, words, &mut out, &mut work, text))
+}
+
+// As above.
+#[no_mangle]
+pub extern "C" fn tp_report_text(file: &[u8], words: &mut [Word], text: &mut [u8]) -> TpAnswer
+    ensures { λ r. ⌜ returned r (wordsAndText (now (words .exit)) (now (text .exit))) ≡ answered (reportTextWritten (now (file .entry)) (now (words .entry)) (now (text .entry))) ⌝ }
+{
+    let mut out: [Word; 8] = [0; 8];
+    let mut work: [Word; 256] = [0; 256];
+    answer(report::write_text(file, words, &mut out, &mut work, text))
 }

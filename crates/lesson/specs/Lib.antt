@@ -1,11 +1,3 @@
-pub mod Lesson
 pub mod Text
-pub mod Call
-pub mod Steps
-pub mod Answers
 pub mod TextLaws
-pub mod SampleLaws
-pub mod SamplerLaws
-pub mod LessonLaws
 pub mod Room
-pub mod Input

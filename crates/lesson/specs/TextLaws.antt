@@ -1,15 +1,16 @@
 -- The lines of the text, piece by piece, and how long they are.
-use mathlib.Core.Path.{_≡_}
-use mathlib.Core.List.{List, _++_, map, append-assoc, append-nil}
-use Prim.Native.Nat.{ℕ, _+_, _≤_, _<_}
+use mathlib.Core.Path.{_≡_, refl, sym, ap, _∙_}
+use mathlib.Core.List.{List, [], _∷_, _++_, map, append-assoc, append-nil}
+use Prim.Native.Nat.{ℕ, suc, _+_, _≤_, _<_}
 use native.Mathlib.Omega.{arith}
 use lib.IntN.{ℤ, natAbs}
 use lib.ListN.{length, length-append}
 use Rattle.residue.specs.Residue.{EachBelow}
 use Rattle.text.specs.Ascii.{ascii}
 use Rattle.text.specs.Text.{decimal, signed, spaced}
-use Rattle.lesson.specs.Text.{parameterFields, fieldsLine, refusalLine}
 use Rattle.text.specs.Laws.{decimal-length, signed-length, words-length, line-append}
+use Rattle.lesson_file.specs.Records.{Sample}
+use Rattle.lesson.specs.Text.{parameterFields, fieldsLine, sampleLine, sampleLines}
 
 module _ (n k q used : ℕ) where
   pub parameters-spaced : spaced (parameterFields n k q used) ≡ (ascii " " ++ decimal n) ++ ((ascii " " ++ decimal k) ++ ((ascii " " ++ decimal q) ++ (ascii " " ++ decimal used)))
@@ -32,13 +33,22 @@ module _ (number n k q used : ℕ) (value : ℤ) (shares : List ℕ) where
       let d : (m : ℕ) → m < 100000 → length (decimal m) ≤ 5 = λ m h. decimal-length m 5 h (omega arith) in
       omega (arith, length-fields-line, length-parameters n k q used, d number hm, d n hn, d k hk, d q hq, d used hu, signed-length value 5 hv (omega arith), words-length 5 shares each (omega arith))
 
-module _ (code position : ℕ) where
-  pub refusal-line : refusalLine code position ≡ ascii "refused" ++ ((ascii " " ++ decimal code) ++ ((ascii " " ++ decimal position) ++ ascii "\n"))
-  unfolding refusalLine spaced
-  refusal-line = rw (append-nil (decimal position), append-assoc (decimal code) (ascii " " ++ decimal position) (ascii "\n"))
+-- lines behind lines
+pub lines-append : (number : ℕ) (a b : List Sample) → sampleLines number (a ++ b) ≡ sampleLines number a ++ sampleLines (number + length a) b
+unfolding sampleLines
+lines-append number [] b =
+    let e : number ≡ number + 0 = omega arith in
+    ap (λ m. sampleLines m b) e
+lines-append number (s ∷ a) b =
+    let e : suc number + length a ≡ number + suc (length a) = omega arith in
+    ap (λ l. sampleLine number s ++ l) (lines-append (suc number) a b ∙ ap (λ m. sampleLines (suc number) a ++ sampleLines m b) e)
+    ∙ sym (append-assoc (sampleLine number s) (sampleLines (suc number) a) (sampleLines (number + suc (length a)) b))
 
-  pub length-refusal-line : length (refusalLine code position) ≡ 10 + length (decimal code) + length (decimal position)
-  length-refusal-line = rw refusal-line (simp length-append (omega arith))
+pub lines-none : (number : ℕ) → sampleLines number [] ≡ []
+unfolding sampleLines
+lines-none number = refl
 
-  pub refusal-line-length : code < 100 → position < 100000 → length (refusalLine code position) ≤ 17
-  refusal-line-length h l = omega (arith, length-refusal-line, decimal-length code 2 h (omega arith), decimal-length position 5 l (omega arith))
+-- one line behind them
+pub lines-last : (number : ℕ) (a : List Sample) (s : Sample) → sampleLines number (a ++ (s ∷ [])) ≡ sampleLines number a ++ sampleLine (number + length a) s
+unfolding sampleLines
+lines-last number a s = lines-append number a (s ∷ []) ∙ ap (λ l. sampleLines number a ++ l) (append-nil (sampleLine (number + length a) s))

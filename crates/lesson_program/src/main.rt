@@ -1,54 +1,13 @@
 // The lesson program (document 01, 'Lesson files and the lesson program'): a lesson file from standard input, its text to standard output.
 use checks::Answer;
-use libc::STDIN_FILENO;
 use libc::STDOUT_FILENO;
 use residue::Word;
 ghost use mathlib.Core.Path.{_≡_};
-ghost use mathlib.Core.Bool.{true, false};
 ghost use mathlib.Core.List.{List};
 ghost use Prim.Native.Nat.{ℕ, _≤_};
 ghost use lib.ListN.{length, take, replicate};
 ghost use Rattle.lesson.specs.Text.{lessonText};
-ghost use Rattle.lesson.specs.Input.{Read};
-
-// How many bytes in front of the buffer count as the input: none where a read failed, wherever in the input; else all that fit, unless the
-// input ended before.
-struct Input {
-    count: usize,
-    failed: bool,
-    ended: bool,
-}
-
-// Reads until the input ends, the buffer is full or a read fails.
-fn read_input(buffer: &mut [u8]) -> Input
-    ensures { λ r. ⌜ (r .count ≤ length (now (buffer .exit))) × (r .failed ≡ true → r .count ≡ 0) × (r .failed ≡ false → r .ended ≡ false → r .count ≡ length (now (buffer .exit))) ⌝ }
-{
-    let mut done = 0;
-    while done < buffer.len() {
-        let got = libc::read(STDIN_FILENO, &mut buffer[done..]);
-        if got < 0 {
-            return Input {
-                count: 0,
-                failed: true,
-                ended: false,
-            };
-        }
-        let more = io::count(got, &buffer[done..]);
-        if more == 0 {
-            return Input {
-                count: done,
-                failed: false,
-                ended: true,
-            };
-        }
-        done = done + more;
-    }
-    Input {
-        count: done,
-        failed: false,
-        ended: false,
-    }
-}
+ghost use Rattle.lesson_samples.specs.Input.{Read};
 
 // Puts the text of the whole input in front of `text`, and answers its length. A buffer with room for one byte past the limit is enough to know
 // it. The library refuses no file: there is room for the text of each.
@@ -76,7 +35,7 @@ fn main() {
     let mut file = [0u8; 60001];
     let mut words: [Word; 1792] = [0; 1792];
     let mut text = [0u8; 180045];
-    let input = read_input(&mut file);
+    let input = streams::read_input(&mut file);
     let length = make_text(&file, input.count, &mut words, &mut text);
     if !io::write_all(STDOUT_FILENO, &text[..length]) {
         os::fail(b"lesson_program: standard output");

@@ -37,16 +37,24 @@ pub fn write_field(text: &mut [u8], at: usize, value: usize) -> usize
     write_decimal(text, start, value)
 }
 
-// A number with its sign behind a space.
+pub fn write_integer(text: &mut [u8], at: usize, value: i32) -> usize
+    requires { ⌜ at + length (signed value) ≤ length (now text) ⌝ }
+    ensures { λ r. ⌜ Wrote (now (text .entry)) at (signed value) (now (text .exit)) r ⌝ }
+{
+    if value < 0 {
+        let start = write_bytes(text, at, b"-");
+        return write_decimal(text, start, residue::magnitude(value) as usize);
+    }
+    write_decimal(text, at, residue::magnitude(value) as usize)
+}
+
+// An integer behind a space.
 pub fn write_signed(text: &mut [u8], at: usize, value: i32) -> usize
     requires { ⌜ at + length (ascii " " ++ signed value) ≤ length (now text) ⌝ }
     ensures { λ r. ⌜ Wrote (now (text .entry)) at (ascii " " ++ signed value) (now (text .exit)) r ⌝ }
 {
-    if value < 0 {
-        let start = write_bytes(text, at, b" -");
-        return write_decimal(text, start, residue::magnitude(value) as usize);
-    }
-    write_field(text, at, residue::magnitude(value) as usize)
+    let start = write_bytes(text, at, b" ");
+    write_integer(text, start, value)
 }
 
 // Words, each behind a space. Printing compares and divides them: it is for what is shown.

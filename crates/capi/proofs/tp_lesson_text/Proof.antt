@@ -1,5 +1,5 @@
 -- The call's own outcome, without the buffers that are not the caller's, its answer as a struct.
-use Rattle.capi.specs.LessonText.{lent}
+use Rattle.capi.specs.FileText.{lent}
 use mathlib.Core.Path.{ap}
 use Rattle.capi.specs.Laws.{answered-by}
 use borrow.Author.Needs.{needs}

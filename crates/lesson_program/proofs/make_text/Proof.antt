@@ -2,10 +2,12 @@
 use mathlib.Core.Path.{sym, ap, _∙_}
 use Prim.Native.Nat.{ℕ, _≤_}
 use native.Mathlib.Omega.{arith}
-use lib.ListN.{length, length-replicate}
+use lib.ListN.{length, take, length-replicate}
 use lib.Seq.{length-take-le}
-use Rattle.lesson.specs.Room.{text-in-front, never-refused}
-use Rattle.lesson.specs.Input.{text-of-input}
+use Rattle.lesson_samples.specs.CallLaws.{text-in-front, never-refused}
+use Rattle.lesson_samples.specs.Input.{text-of-input}
+use Rattle.lesson.specs.Text.{textOf}
+use Rattle.lesson.specs.Room.{room-le}
 use borrow.Author.Needs.{needs}
 use Rattle.lesson_program.proofs.make_text.Statement.{statement}
 use Rattle.lesson_program.proofs.make_text.Tie as tie
@@ -34,7 +36,7 @@ same-length-2 c = search needs
 returns : tie.Need-returns
 returns c =
     let s = c .before .before .before .before .before .before .before .before .before .before .before .before .before .before .before .before .before .before in
-    text-of-input (s .args .buffer .now) (s .args .count) (s .pre .0) _ _ (text-in-front _ _ _ _ _ _ _ (c .before .before .before .before .before .before .before .before .before .write-text .ensures) _ (c .before .length .given .1))
+    text-of-input textOf (s .args .buffer .now) (s .args .count) (s .pre .0) _ _ (text-in-front _ _ _ _ _ _ _ _ _ (c .before .before .before .before .before .before .before .before .before .write-text .ensures) _ (c .before .length .given .1))
 
 enum-told : tie.Need-enum-told
 enum-told c = search needs
@@ -49,7 +51,7 @@ returns-2 : tie.Need-returns-2
 returns-2 c =
     let s = c .before .before .before .before .before .before .before .before .before .before .before .before .before .before .before .before .before in
     let w : 1792 ≤ length (s .args .words .now) = omega (arith, ap length (s .pre .2) ∙ length-replicate {A = ℕ} 1792 0) in
-    absurd (never-refused _ _ _ _ _ _ _ (c .before .before .before .before .before .before .before .before .write-text .ensures) w (omega arith) (omega arith) (s .pre .3) _ (c .enum-told .given .1))
+    absurd (never-refused _ _ _ _ _ _ _ _ _ (c .before .before .before .before .before .before .before .before .write-text .ensures) record { word-room = w; share-room = omega arith; row-room = omega arith } (omega (arith, s .pre .3, room-le (length (take (s .args .count) (s .args .buffer .now))))) _ (c .enum-told .given .1))
 
 pub make-text-spec : {M : Type 1} → statement M
 make-text-spec =

@@ -1,5 +1,5 @@
 -- Five pieces, one behind the other.
-use mathlib.Core.Path.{_≡_}
+use mathlib.Core.Path.{_≡_, ap}
 use mathlib.Core.List.{List, map}
 use Prim.Native.Nat.{ℕ, _+_, _≤_}
 use native.Mathlib.Omega.{arith}
@@ -9,23 +9,23 @@ use mir.Val.{toZ, ofZ}
 use mir.Facts.{toZ-ofZ}
 use borrow.Author.Needs.{needs}
 use Rattle.text.specs.Text.{decimal, signed, spaced}
-use Rattle.lesson.specs.Text.{parameterFields}
 use Rattle.text.specs.Laws.{wrote-then}
+use Rattle.lesson.specs.Text.{parameterFields}
 use Rattle.lesson.specs.TextLaws.{fields-line, length-fields-line}
 use Rattle.lesson.proofs.lines.write_line.Statement.{statement}
 use Rattle.lesson.proofs.lines.write_line.Tie as tie
 
--- the value is itself when write_signed reads it
-read : (s : tie.Start) → toZ w32 (ofZ w32 (s .args .value)) ≡ s .args .value
-read s = toZ-ofZ (s .fits .value)
-
 -- what write_parameters writes
 abbrev fields : tie.Start → List ℕ
-fields s = spaced (parameterFields (s .args .parameters .n) (s .args .parameters .k) (s .args .parameters .q) (s .args .used))
+fields s = let m = s .args .sampled in spaced (parameterFields (m .parameters .n) (m .parameters .k) (m .parameters .q) (m .used))
 
 -- what is required, by the pieces' lengths
-room : (s : tie.Start) → s .args .at + (2 + length (decimal (s .args .number)) + length (fields s) + length (signed (toZ w32 (ofZ w32 (s .args .value)))) + length (spaced (map decimal (s .args .shares .now)))) ≤ length (s .args .text .now)
-room s = rw (read s) (rw length-fields-line at (s .pre))
+room : (s : tie.Start) → s .args .at + (2 + length (decimal (s .args .number)) + length (fields s) + length (signed (s .args .sampled .value)) + length (spaced (map decimal (s .args .shares .now)))) ≤ length (s .args .text .now)
+room s = rw length-fields-line at (s .pre)
+
+-- the value is itself when write_signed reads it
+read : (c : tie.After-struct-told) → let z = c .before .before .before .before .before .before .before .before .before .before .before .before .args .sampled .value in toZ w32 (ofZ w32 z) ≡ z
+read c = toZ-ofZ (record { sfits = c .struct-told .given .1 .1 .0 .1 })
 
 write-decimal-requires : tie.Need-write-decimal-requires
 write-decimal-requires c κs = omega (arith, room (c .before .before .before))
@@ -34,26 +34,25 @@ write-parameters-requires : tie.Need-write-parameters-requires
 write-parameters-requires c κs = omega (arith, room (c .before .before .before .before .before .before .before))
 
 write-signed-requires : tie.Need-write-signed-requires
-write-signed-requires c κs = omega (arith, room (c .before .before .before .before .before .before .before .before .before .before .before))
+write-signed-requires c κs = rw (read c) (omega (arith, room (c .before .before .before .before .before .before .before .before .before .before .before .before)))
 
 write-words-requires : tie.Need-write-words-requires
-write-words-requires c κs = omega (arith, room (c .before .before .before .before .before .before .before .before .before .before .before .before .before .before .before))
+write-words-requires c κs = omega (arith, room (c .before .before .before .before .before .before .before .before .before .before .before .before .before .before .before .before), ap (λ z. length (signed z)) (read (c .before .before .before .before)))
 
 slice-aggregate-write-bytes : tie.Need-slice-aggregate-write-bytes
 slice-aggregate-write-bytes c = search needs
 
 write-bytes-requires : tie.Need-write-bytes-requires
-write-bytes-requires c κs = omega (arith, room (c .before .before .before .before .before .before .before .before .before .before .before .before .before .before .before .before .before .before .before .before))
+write-bytes-requires c κs = omega (arith, room (c .before .before .before .before .before .before .before .before .before .before .before .before .before .before .before .before .before .before .before .before .before), ap (λ z. length (signed z)) (read (c .before .before .before .before .before .before .before .before .before)))
 
 same-length : tie.Need-same-length
 same-length c = search needs
 
 returns : tie.Need-returns
 returns c =
-    let s = c .before .before .before .before .before .before .before .before .before .before .before .before .before .before .before .before .before .before .before .before .before .before .before in
-    let w = rw (read s) at (c .before .before .before .before .before .before .before .before .before .before .before .write-signed .ensures) in
-    rw fields-line (wrote-then _ _ _ _ (c .before .before .before .before .before .before .before .before .before .before .before .before .before .before .before .before .before .before .before .write-decimal .ensures)
-    (wrote-then _ _ (fields s) _ (c .before .before .before .before .before .before .before .before .before .before .before .before .before .before .before .write-parameters .ensures)
+    let w = rw (read (c .before .before .before .before .before .before .before .before .before .before .before .before)) at (c .before .before .before .before .before .before .before .before .before .before .before .write-signed .ensures) in
+    rw fields-line (wrote-then _ _ _ _ (c .before .before .before .before .before .before .before .before .before .before .before .before .before .before .before .before .before .before .before .before .write-decimal .ensures)
+    (wrote-then _ _ (fields (c .before .before .before .before .before .before .before .before .before .before .before .before .before .before .before .before .before .before .before .before .before .before .before .before)) _ (c .before .before .before .before .before .before .before .before .before .before .before .before .before .before .before .before .write-parameters .ensures)
     (wrote-then _ _ _ _ w (wrote-then _ _ _ _ (c .before .before .before .before .before .before .before .write-words .ensures) (c .before .before .write-bytes .ensures)))))
 
 pub write-line-spec : {M : Type 1} → statement M

@@ -1,0 +1,12 @@
+pub mod Lesson
+pub mod Call
+pub mod RefusalLine
+pub mod Steps
+pub mod Answers
+pub mod SampleLaws
+pub mod SamplerLaws
+pub mod LessonLaws
+pub mod Walk
+pub mod RefusalLaws
+pub mod CallLaws
+pub mod Input

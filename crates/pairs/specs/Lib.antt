@@ -1,0 +1,5 @@
+pub mod Pairs
+pub mod Sums
+pub mod Integers
+pub mod PairLaws
+pub mod Rows

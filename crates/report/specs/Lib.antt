@@ -1,0 +1,5 @@
+pub mod Report
+pub mod Counted
+pub mod LineLaws
+pub mod Room
+pub mod Sums

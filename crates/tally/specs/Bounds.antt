@@ -1,0 +1,48 @@
+-- How large the numbers of a tally get.
+use mathlib.Core.List.{List, [], _∷_}
+use Prim.Native.Nat.{ℕ, _*_, _^_, _≤_, _<_}
+use native.Mathlib.Nat as N
+use native.Mathlib.Omega.{arith}
+use lib.IntN.{ℤ, natAbs}
+use lib.ListN.{length}
+use Rattle.residue.specs.Residue.{total}
+use Rattle.buffers.specs.Positions.{at, Below}
+use Rattle.buffers.specs.PositionLaws.{table-at}
+use Rattle.pairs.specs.Pairs.{sameℤ}
+use Rattle.pairs.specs.Sums.{one-le}
+use Rattle.tally.specs.declared.Tally.{Tally}
+use Rattle.tally.specs.Tally.{Samples, occurrences, sampleAt, countAt, sumℤ, squares, tallyOf}
+use Rattle.tally.specs.Integers.{natAbs-plus}
+
+pub occurrences-le : (d : ℤ) (zs : List ℤ) → occurrences d zs ≤ length zs
+unfolding occurrences total
+occurrences-le d [] = omega arith
+occurrences-le d (z ∷ zs) = omega (arith, one-le (sameℤ z d), occurrences-le d zs)
+
+pub sum-le : (zs : List ℤ) → Samples zs → natAbs (sumℤ zs) ≤ 16 * length zs
+unfolding sumℤ
+sum-le [] h = omega arith
+sum-le (z ∷ zs) h = omega (arith, natAbs-plus z (sumℤ zs), h .0, sum-le zs (h .1))
+
+pub squares-le : (zs : List ℤ) → Samples zs → squares zs ≤ 256 * length zs
+unfolding total
+squares-le [] h = omega arith
+squares-le (z ∷ zs) h = omega (arith, N.mul-le-mul (h .0) (h .0), squares-le zs (h .1))
+
+-- room for one sample more
+pub record Room (t : Tally) : Type 0 where
+  pub counted : Below (2 ^ 31) 33 (at (t .counts))
+  pub summed : natAbs (t .sum) < 2 ^ 30
+  pub squared : t .squares < 2 ^ 31
+  pub totalled : t .total < 2 ^ 31
+
+-- as there is behind the samples of a lesson file
+pub tally-room : (ks : List ℕ) (zs : List ℤ) → Samples zs → length zs ≤ 60000 → Room (tallyOf ks zs)
+unfolding tallyOf
+tally-room ks zs h l =
+    record {
+      counted = λ e m. rw (table-at 33 (countAt zs) e m) (omega (arith, occurrences-le (sampleAt e) zs));
+      summed = omega (arith, sum-le zs h);
+      squared = omega (arith, squares-le zs h);
+      totalled = omega arith;
+    }
