@@ -1,6 +1,6 @@
 -- The lines, one behind the other, and the text by what was counted.
 use mathlib.Core.Path.{_≡_, refl, sym, ap, _∙_}
-use mathlib.Core.Bool.{Bool}
+use mathlib.Core.Bool.{Bool, false}
 use mathlib.Core.List.{List, [], _∷_, _++_, append-nil, append-assoc}
 use Prim.Native.Nat.{ℕ, zero, suc, _+_, _^_, _≤_}
 use native.Mathlib.Nat.{add-zero}
@@ -13,11 +13,38 @@ use Rattle.checks.specs.Checks.{Verdict, accepted, refused}
 use Rattle.pairs.specs.Pairs.{pairs}
 use Rattle.tally.specs.Tally.{Line, lineOf, linesOf, sampleAt, tallyOf}
 use Rattle.tally.specs.LineLaws.{lines-counts}
-use Rattle.text.specs.Text.{decimal, signed, line}
+use Rattle.text.specs.Ascii.{ascii}
+use Rattle.text.specs.Text.{decimal, signed, spaced, line}
 use Rattle.lesson_file.specs.Records.{Sample}
 use Rattle.lesson_samples.specs.Lesson.{valueOf, Lesson, endingVerdict}
-use Rattle.report.specs.Report.{valuesOf, lengthsOf, exactFields, lineText, linesText, samplesText, endedText, textOf}
+use Rattle.report.specs.Report.{valuesOf, lengthsOf, exactFields, lineText, linesText, lastLine, samplesText, endedText, textOf}
 use Rattle.report.specs.Counted.{tallied, tallyText, readingText}
+
+-- ---- the pieces of a line
+
+module _ (f g : List ℕ) (gs : List (List ℕ)) where
+  pub line-pieces : line f (g ∷ gs) ≡ f ++ ((ascii " " ++ g) ++ (spaced gs ++ ascii "\n"))
+  unfolding spaced
+  line-pieces = ap (λ l. f ++ l) (append-assoc (ascii " " ++ g) (spaced gs) (ascii "\n"))
+
+  pub length-line : length (line f (g ∷ gs)) ≡ 2 + length f + length g + length (spaced gs)
+  length-line = rw line-pieces (simp length-append (omega arith))
+
+module _ (count power : ℕ) where
+  pub exact-pieces : spaced (exactFields false count power) ≡ (ascii " " ++ decimal count) ++ (ascii " " ++ decimal power)
+  unfolding spaced
+  exact-pieces = simp append-nil
+
+  pub length-exact : length (spaced (exactFields false count power)) ≡ 2 + length (decimal count) + length (decimal power)
+  length-exact = rw exact-pieces (simp length-append (omega arith))
+
+module _ (sum : ℤ) (squares total : ℕ) where
+  pub last-pieces : lastLine sum squares total ≡ signed sum ++ ((ascii " " ++ decimal squares) ++ ((ascii " " ++ decimal total) ++ ascii "\n"))
+  unfolding lastLine spaced
+  last-pieces = rw (line-pieces (signed sum) (decimal squares) (decimal total ∷ []), append-nil (decimal total))
+
+  pub length-last : length (lastLine sum squares total) ≡ 3 + length (signed sum) + length (decimal squares) + length (decimal total)
+  length-last = rw last-pieces (simp length-append (omega arith))
 
 -- ---- one line behind the others
 

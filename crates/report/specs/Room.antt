@@ -15,8 +15,7 @@ use Rattle.pairs.specs.Pairs.{pairs}
 use Rattle.pairs.specs.PairLaws.{pairs-le, power-lt}
 use Rattle.tally.specs.Tally.{Samples, occurrences, lineOf, sampleAt, sumℤ, squares, firstOf, agree}
 use Rattle.tally.specs.Bounds.{occurrences-le, sum-le, squares-le}
-use Rattle.text.specs.Ascii.{ascii}
-use Rattle.text.specs.Text.{decimal, signed, spaced, line}
+use Rattle.text.specs.Text.{decimal, signed, spaced}
 use Rattle.text.specs.Laws.{decimal-length, signed-length}
 use Rattle.lesson_file.specs.Layouts.{whole-sample, layout-end, layout-longer}
 use Rattle.lesson_file.specs.Records.{Sample, layoutAt}
@@ -27,7 +26,7 @@ use Rattle.lesson_samples.specs.RefusalLine.{endingLine}
 use Rattle.lesson_samples.specs.RefusalLaws.{ending-short}
 use Rattle.lesson_samples.specs.Walk.{looked-at, too-long}
 use Rattle.report.specs.Report.{valuesOf, lengthsOf, exactFields, linesText, lastLine, samplesText, endedText, textOf, reportText}
-use Rattle.report.specs.LineLaws.{line-absent, line-present, firstLines, lines-none, lines-next}
+use Rattle.report.specs.LineLaws.{length-line, length-exact, length-last, line-absent, line-present, firstLines, lines-none, lines-next}
 
 -- ---- the samples of a file
 
@@ -71,12 +70,7 @@ module _ (file : List ℕ) where
 exact-length : (mixed : Bool) (count power : ℕ) → count < 10 ^ 10 → power < 10 ^ 10 → length (spaced (exactFields mixed count power)) ≤ 22
 unfolding spaced
 exact-length true count power h l = omega arith
-exact-length false count power h l = simp length-append (omega (arith, decimal-length count 10 h (omega arith), decimal-length power 10 l (omega arith)))
-
--- a line of two fields and more
-line-text-length : (f g : List ℕ) (fs : List (List ℕ)) → length f ≤ 3 → length g ≤ 5 → length (spaced fs) ≤ 22 → length (line f (g ∷ fs)) ≤ 35
-unfolding spaced
-line-text-length f g fs h l m = simp length-append (omega arith)
+exact-length false count power h l = omega (arith, length-exact count power, decimal-length count 10 h (omega arith), decimal-length power 10 l (omega arith))
 
 sample-small : (e : ℕ) → e < 33 → natAbs (sampleAt e) ≤ 16
 sample-small e h = go (decLe 16 e)
@@ -93,7 +87,7 @@ module _ (mixed : Bool) (k : ℕ) (h : k ≤ 16) where
     where
       go : Dec (times ≡ 0) → length (linesText mixed k (lineOf d times)) ≤ 35
       go (yes e) = rw (line-absent mixed k d times e) (omega arith)
-      go (no e) = rw (line-present mixed k d times e) (line-text-length (signed d) (decimal times) _ (signed-length d 2 (omega arith) (omega arith)) (decimal-length times 5 b (omega arith)) (exact-length mixed (pairs k d) (4 ^ k) (omega (arith, pairs-le k d, power-lt k h)) (power-lt k h)))
+      go (no e) = rw (line-present mixed k d times e) (omega (arith, length-line (signed d) (decimal times) (exactFields mixed (pairs k d) (4 ^ k)), signed-length d 2 (omega arith) (omega arith), decimal-length times 5 b (omega arith), exact-length mixed (pairs k d) (4 ^ k) (omega (arith, pairs-le k d, power-lt k h)) (power-lt k h)))
 
   lines-length : (n : ℕ → ℕ) → ((e : ℕ) → n e < 10 ^ 5) → (m : ℕ) → m ≤ 33 → length (firstLines mixed k n m) ≤ 35 * m
   lines-length n b zero l = rw (lines-none mixed k n) (omega arith)
@@ -102,8 +96,7 @@ module _ (mixed : Bool) (k : ℕ) (h : k ≤ 16) where
       (omega (arith, lines-length n b m (omega arith), line-length (sampleAt m) (n m) (sample-small m l) (b m)))
 
 last-length : (sum : ℤ) (squares total : ℕ) → natAbs sum < 10 ^ 6 → squares < 10 ^ 8 → total < 10 ^ 5 → length (lastLine sum squares total) ≤ 45
-unfolding lastLine spaced
-last-length sum squares total h l m = simp length-append (omega (arith, signed-length sum 6 h (omega arith), decimal-length squares 8 l (omega arith), decimal-length total 5 m (omega arith)))
+last-length sum squares total h l m = omega (arith, length-last sum squares total, signed-length sum 6 h (omega arith), decimal-length squares 8 l (omega arith), decimal-length total 5 m (omega arith))
 
 samples-room : (samples : List Sample) → Fit samples → length samples ≤ 60000 → length (samplesText samples) ≤ 1200
 unfolding samplesText

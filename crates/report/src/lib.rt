@@ -8,8 +8,9 @@ use lesson_samples::SampleAnswer;
 use residue::Word;
 use tally::Tally;
 ghost use mathlib.Core.Path.{_≡_};
-ghost use Prim.Native.Nat.{_≤_};
+ghost use Prim.Native.Nat.{_^_, _≤_};
 ghost use lib.ListN.{length};
+ghost use Rattle.buffers.specs.Positions.{at, Below};
 ghost use Rattle.checks.specs.Answers.{checkedReading, outcome};
 ghost use Rattle.text.specs.Text.{Wrote};
 ghost use Rattle.lesson_samples.specs.Lesson.{lesson, endingVerdict};
@@ -61,7 +62,7 @@ fn read_samples(
 
 // What was counted, or the refusal's line alone.
 fn write_reading(text: &mut [u8], reading: Reading) -> usize
-    requires { ⌜ (reading .tally .k ≤ 16) × (length (readingText (reading .tally) (checkedReading (reading .ended))) ≤ length (now text)) ⌝ }
+    requires { ⌜ (reading .tally .k ≤ 16) × Below (2 ^ 31) 33 (at (reading .tally .counts)) × (length (readingText (reading .tally) (checkedReading (reading .ended))) ≤ length (now text)) ⌝ }
     ensures { λ r. ⌜ Wrote (now (text .entry)) 0 (readingText (reading .tally) (checkedReading (reading .ended))) (now (text .exit)) r ⌝ }
 {
     let ended = reading.ended;

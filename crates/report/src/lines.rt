@@ -4,7 +4,7 @@ ghost use mathlib.Core.Path.{_≡_};
 ghost use mathlib.Core.List.{_∷_};
 ghost use Prim.Native.Nat.{_+_, _^_, _≤_, _<_};
 ghost use lib.ListN.{length};
-ghost use Rattle.buffers.specs.Positions.{at};
+ghost use Rattle.buffers.specs.Positions.{at, Below};
 ghost use Rattle.pairs.specs.Pairs.{pairs, pairRow};
 ghost use Rattle.tally.specs.Tally.{lineOf, sampleAt, linesOf};
 ghost use Rattle.text.specs.Text.{decimal, signed, spaced, line, Wrote};
@@ -76,7 +76,7 @@ fn write_lines(
     mixed: bool,
     k: usize,
 ) -> usize
-    requires { ⌜ (k ≤ 16) × (now row ≡ pairRow k) × (length (linesText mixed k (linesOf 33 sampleAt (at (now counts)))) ≤ length (now text)) ⌝ }
+    requires { ⌜ (k ≤ 16) × Below (2 ^ 31) 33 (at (now counts)) × (now row ≡ pairRow k) × (length (linesText mixed k (linesOf 33 sampleAt (at (now counts)))) ≤ length (now text)) ⌝ }
     ensures { λ r. ⌜ Wrote (now (text .entry)) 0 (linesText mixed k (linesOf 33 sampleAt (at (now (counts .entry))))) (now (text .exit)) r ⌝ }
 {
     let mut end = 0;
@@ -106,7 +106,7 @@ fn write_last(text: &mut [u8], at: usize, sum: i32, squares: usize, total: usize
 
 // The text of what was counted.
 pub fn write_tally(text: &mut [u8], tally: Tally) -> usize
-    requires { ⌜ (tally .k ≤ 16) × (length (tallyText tally) ≤ length (now text)) ⌝ }
+    requires { ⌜ (tally .k ≤ 16) × Below (2 ^ 31) 33 (at (tally .counts)) × (length (tallyText tally) ≤ length (now text)) ⌝ }
     ensures { λ r. ⌜ Wrote (now (text .entry)) 0 (tallyText tally) (now (text .exit)) r ⌝ }
 {
     let counts = tally.counts;
