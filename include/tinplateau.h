@@ -18,7 +18,7 @@
 
 /* MINOR rises with a new call, MAJOR where a call or the meaning of an answer changes. */
 #define TINPLATEAU_VERSION_MAJOR 2
-#define TINPLATEAU_VERSION_MINOR 0
+#define TINPLATEAU_VERSION_MINOR 1
 
 /* Has the compiler warn where an answer is dropped; gcc does so in C in spite of a cast to void. Defined as nothing (-DTP_NODISCARD=) it is
  * off. */
@@ -36,7 +36,7 @@
 extern "C" {
 #endif
 
-/* The limits of n, k and m, of the words that one sample takes, and of a lesson file's bytes. */
+/* The limits of n, k and m, of the words that one sample takes, and of a lesson file's bytes; the bytes of a report's text buffer. */
 #define TP_MIN_SHARES 2
 #define TP_MAX_SHARES 8
 #define TP_MIN_BITS 1
@@ -45,6 +45,7 @@ extern "C" {
 #define TP_MAX_COEFFICIENTS 256
 #define TP_MAX_WORDS 1792
 #define TP_MAX_FILE 60000
+#define TP_REPORT_ROOM 1200
 
 /* The random words of a converted bit, and of a sample; the words of a sample's work area, which is a polynomial's too; the shares of a
  * polynomial's x, y and output, each, and its random words; the bytes of a lesson's text buffer. They are of type size_t, and not for #if. */
@@ -60,7 +61,7 @@ extern "C" {
 #define TP_POLYNOMIAL_WORDS(n, k, m) (TP_SIZE(m) * TP_SAMPLE_WORDS(n, k))
 #define TP_TEXT_ROOM(file_len) (TP_SIZE(file_len) > TP_MAX_FILE ? TP_SIZE(45) : 3 * TP_SIZE(file_len) + 45)
 
-/* Why a call is refused. TP_MARK to TP_FILE_LENGTH are about lesson files, and stand in a lesson's text only. */
+/* Why a call is refused. TP_MARK to TP_FILE_LENGTH are about lesson files, and stand in a file's text only. */
 enum tp_code {
     TP_ACCEPTED = 0,
     TP_SHARE_COUNT = 1,       /* n is not from 2 to 8 */
@@ -235,6 +236,16 @@ tp_answer tp_sample_polynomial(size_t n, size_t k, uint16_t q, size_t m, const u
  * than 60,000 bytes). Text bytes past the text keep their content. */
 TP_NODISCARD
 tp_answer tp_lesson_text(const uint8_t *file, size_t file_len, uint16_t *words, size_t words_len, uint8_t *text, size_t text_len);
+
+/* Writes the class report of a lesson file, as the report program prints it, in front of the text buffer. Answers its length in bytes. It has a
+ * line for each centred sample that occurs, from lowest to highest: the sample and how many times it came; where all samples share one k, also
+ * the number of pairs of k-bit strings with that difference of weights, and 4 to the power k. Its last line has the sum of the samples, the sum of
+ * their squares and their number. What is wrong with the file is said in the text, which then is that one line. The word buffer is afterwards as
+ * tp_lesson_text leaves it for the file.
+ * Refuses 8 (a word buffer of fewer than 1,792 words); 10 (a text buffer of fewer than 1,200 bytes, whatever the file). Text bytes past the text
+ * keep their content. */
+TP_NODISCARD
+tp_answer tp_report_text(const uint8_t *file, size_t file_len, uint16_t *words, size_t words_len, uint8_t *text, size_t text_len);
 
 #ifdef __cplusplus
 }

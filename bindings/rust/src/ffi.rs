@@ -178,4 +178,7 @@ extern "C" {
 
     /// Writes the text of a lesson file.
     pub fn tp_lesson_text(file: *const u8, file_len: usize, words: *mut u16, words_len: usize, text: *mut u8, text_len: usize) -> tp_answer;
+
+    /// Writes the class report of a lesson file.
+    pub fn tp_report_text(file: *const u8, file_len: usize, words: *mut u16, words_len: usize, text: *mut u8, text_len: usize) -> tp_answer;
 }

@@ -7,7 +7,7 @@ mod sizes;
 
 pub use refusal::{Reason, Refusal};
 pub use sizes::{bit_words, polynomial_shares, polynomial_words, sample_words, sample_work, text_room};
-pub use sizes::{MAX_BITS, MAX_COEFFICIENTS, MAX_FILE, MAX_SHARES, MAX_WORDS, MIN_BITS, MIN_COEFFICIENTS, MIN_SHARES};
+pub use sizes::{MAX_BITS, MAX_COEFFICIENTS, MAX_FILE, MAX_SHARES, MAX_WORDS, MIN_BITS, MIN_COEFFICIENTS, MIN_SHARES, REPORT_ROOM};
 
 /// An opened string: its k bits, bit 0 the lowest.
 ///
@@ -220,4 +220,16 @@ pub fn sample_polynomial(
 /// [`text_room`] bytes. Text bytes past the text keep their content.
 pub fn lesson_text(file: &[u8], words: &mut [u16], text: &mut [u8]) -> Result<usize, Refusal> {
     answered(unsafe { ffi::tp_lesson_text(file.as_ptr(), file.len(), words.as_mut_ptr(), words.len(), text.as_mut_ptr(), text.len()) })
+}
+
+/// Writes the class report of a lesson file, as the report program prints it, in front of the text buffer. Answers its length in bytes. There is
+/// a line for each centred sample that occurs, from lowest to highest: the sample and how many times it came; where all samples share one k,
+/// also the number of pairs of k-bit strings with that difference of weights, and 4 to the power k. The last line has the sum of the samples,
+/// the sum of their squares and their number. What is wrong with the file is said in the text, which then is that line alone. The word buffer
+/// is afterwards as [`lesson_text`] leaves it.
+///
+/// Refuses, in this order: `WordCount`, for a word buffer of fewer than [`MAX_WORDS`] words; `OutputRoom`, for a text buffer of fewer than
+/// [`REPORT_ROOM`] bytes, whatever the file. Text bytes past the text keep their content.
+pub fn report_text(file: &[u8], words: &mut [u16], text: &mut [u8]) -> Result<usize, Refusal> {
+    answered(unsafe { ffi::tp_report_text(file.as_ptr(), file.len(), words.as_mut_ptr(), words.len(), text.as_mut_ptr(), text.len()) })
 }

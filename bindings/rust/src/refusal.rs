@@ -6,7 +6,7 @@ use std::fmt;
 /// The enum, its numbers and its words from one table.
 macro_rules! reasons {
     ($($number:literal $name:ident $words:literal,)+) => {
-        /// Why a call is refused, with the numbers of `tinplateau.h`. `Mark`, `CutShort`, `WordLimit` and `FileLength` occur in a lesson's text only.
+        /// Why a call is refused, with the numbers of `tinplateau.h`. `Mark`, `CutShort`, `WordLimit` and `FileLength` occur in a file's text only.
         #[non_exhaustive]
         #[repr(u32)]
         #[derive(Clone, Copy, Debug, PartialEq, Eq, Hash)]

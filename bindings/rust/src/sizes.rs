@@ -18,11 +18,15 @@ pub const MIN_COEFFICIENTS: usize = 1;
 /// The greatest number of coefficients in a polynomial.
 pub const MAX_COEFFICIENTS: usize = 256;
 
-/// The most random words that a sample takes, and the length of the word buffer of [`lesson_text`](crate::lesson_text).
+/// The most random words that a sample takes, and the length of the word buffer of [`lesson_text`](crate::lesson_text) and
+/// [`report_text`](crate::report_text).
 pub const MAX_WORDS: usize = 1_792;
 
 /// The most bytes of a lesson file.
 pub const MAX_FILE: usize = 60_000;
+
+/// The bytes that the text buffer of [`report_text`](crate::report_text) must have for every file.
+pub const REPORT_ROOM: usize = 1_200;
 
 /// The random words that [`convert_bit`](crate::convert_bit) takes: n(n - 1). This and the next four saturate.
 pub const fn bit_words(n: usize) -> usize {

@@ -43,10 +43,13 @@ fn bit_of(n: usize, words: usize, start: usize, out: usize) -> Result<usize, Ref
     convert_bit(n, Q, &vec![0; n], &words_from(start, words), start, &mut vec![0; out])
 }
 
-/// The text of a file in a buffer of so many bytes.
-fn text_of(file: &[u8], room: usize) -> Result<String, Refusal> {
+/// A call that writes a text of a file.
+type TextCall = fn(&[u8], &mut [u16], &mut [u8]) -> Result<usize, Refusal>;
+
+/// What the call writes in a buffer of so many bytes.
+fn text_of(call: TextCall, file: &[u8], room: usize) -> Result<String, Refusal> {
     let mut text = vec![0; room];
-    let len = lesson_text(file, &mut [0; MAX_WORDS], &mut text)?;
+    let len = call(file, &mut [0; MAX_WORDS], &mut text)?;
     Ok(String::from_utf8(text[..len].to_vec()).expect("ASCII"))
 }
 
@@ -125,14 +128,17 @@ fn ranges_are_exact() {
     }
     assert_eq!(sample_words(MAX_SHARES, MAX_BITS), MAX_WORDS);
     assert_eq!(lesson_text(&[], &mut [0; MAX_WORDS - 1], &mut [0; 45]), refused(Reason::WordCount, 0));
+    assert_eq!(report_text(&[], &mut [0; MAX_WORDS - 1], &mut [0; REPORT_ROOM]), refused(Reason::WordCount, 0));
 }
 
 #[test]
 fn text_room_is_exact() {
     for len in [0, 1, 30, MAX_FILE - 1, MAX_FILE, MAX_FILE + 1, 2 * MAX_FILE] {
         let file = vec![0; len];
-        assert!(text_of(&file, text_room(len)).is_ok());
-        assert_eq!(text_of(&file, text_room(len) - 1), refused(Reason::OutputRoom, 0));
+        for (call, room) in [(lesson_text as TextCall, text_room(len)), (report_text, REPORT_ROOM)] {
+            assert!(text_of(call, &file, room).is_ok());
+            assert_eq!(text_of(call, &file, room - 1), refused(Reason::OutputRoom, 0));
+        }
     }
 }
 
@@ -183,8 +189,9 @@ fn every_reason_of_a_file_is_met() {
         (vec![0; MAX_FILE + 1], Reason::FileLength, 21, 0),
     ];
     for (file, reason, number, place) in files {
-        let text = format!("no n k q used sample shares\nrefused {number} {place}\n");
-        assert_eq!((text_of(&file, text_room(file.len())), reason.number()), (Ok(text), number));
+        let line = format!("refused {number} {place}\n");
+        assert_eq!(text_of(lesson_text, &file, text_room(file.len())), Ok(format!("no n k q used sample shares\n{line}")));
+        assert_eq!((text_of(report_text, &file, REPORT_ROOM), reason.number()), (Ok(line), number));
     }
 }
 
