@@ -4,6 +4,7 @@ use crate::calls::{centre, coefficients, convert_bit, mask, open_residue, open_s
 use crate::lent::{guarded, unguarded, GUARDS};
 use crate::lesson::{lesson, MOST_BYTES, MOST_WORDS};
 use crate::show::{difference, hex};
+use crate::text::Text;
 
 #[derive(Clone, Copy, Debug, PartialEq, Eq, PartialOrd, Ord)]
 pub enum Function {
@@ -17,9 +18,10 @@ pub enum Function {
     Sample,
     SamplePolynomial,
     LessonText,
+    ReportText,
 }
 
-pub const FUNCTIONS: [Function; 10] = [
+pub const FUNCTIONS: [Function; 11] = [
     Function::Mask,
     Function::OpenString,
     Function::OpenResidue,
@@ -30,6 +32,7 @@ pub const FUNCTIONS: [Function; 10] = [
     Function::Sample,
     Function::SamplePolynomial,
     Function::LessonText,
+    Function::ReportText,
 ];
 
 /// A function's name, the names of its numbers and lists in their order, and its refusals, each with the last place that it can have, which for
@@ -72,6 +75,16 @@ impl Function {
                 form("tp_sample_polynomial", &["n", "k", "q", "m"], &["x", "y", "words", "out", "work"], refusals)
             }
             Function::LessonText => form("tp_lesson_text", &[], &["file", "words", "text"], &[(8, 0), (10, 0)]),
+            Function::ReportText => form("tp_report_text", &[], &["file", "words", "text"], &[(8, 0), (10, 0)]),
+        }
+    }
+
+    /// What it writes of a lesson file, where it takes one.
+    pub const fn text(self) -> Option<Text> {
+        match self {
+            Function::LessonText => Some(Text::Lesson),
+            Function::ReportText => Some(Text::Report),
+            _ => None,
         }
     }
 }
@@ -114,27 +127,27 @@ impl Outcome {
     }
 }
 
-/// The text of a lesson file in front of the text buffer, with the room for it that the header asks for.
-fn lesson_text(file: &[u64], words: &mut [u64], text: &mut [u64]) -> Verdict<u64> {
+/// A text of a lesson file in front of the text buffer, with the room for it that the header asks for.
+fn write_text(text: Text, file: &[u64], words: &mut [u64], out: &mut [u64]) -> Verdict<u64> {
     if (words.len() as u64) < MOST_WORDS {
         return Err((8, 0));
     }
-    if text.len() < text_room(file.len()) {
+    if out.len() < text_room(text, file.len()) {
         return Err((10, 0));
     }
-    let printed = lesson(&bytes(file), words).printed;
+    let printed = text.of(&lesson(&bytes(file), words));
     for (place, byte) in printed.iter().enumerate() {
-        text[place] = *byte as u64;
+        out[place] = *byte as u64;
     }
     Ok(printed.len() as u64)
 }
 
 /// The bytes that a text buffer must have for a file of so many.
-pub fn text_room(file_len: usize) -> usize {
-    if file_len > MOST_BYTES {
-        45
-    } else {
-        3 * file_len + 45
+pub fn text_room(text: Text, file_len: usize) -> usize {
+    match text {
+        Text::Lesson if file_len > MOST_BYTES => 45,
+        Text::Lesson => 3 * file_len + 45,
+        Text::Report => 1_200,
     }
 }
 
@@ -181,7 +194,10 @@ impl Call {
             (Function::ConvertBit, &[n, q, start], [bits, words, out]) => counted(convert_bit(n, q, bits, words, start, out)),
             (Function::Sample, &[n, k, q, start], [x, y, words, out, work]) => counted(sample([n, k, q], [x, y], words, start, out, work)),
             (Function::SamplePolynomial, &[n, k, q, m], [x, y, words, out, work]) => counted(coefficients([n, k, q, m], [x, y], words, 0, out, work)),
-            (Function::LessonText, [], [file, words, text]) => counted(lesson_text(file, words, text)),
+            (function, [], [file, words, out]) => {
+                let text = function.text().expect("a function that takes a file");
+                counted(write_text(text, file, words, out))
+            }
             _ => panic!("the inputs of another function"),
         };
         Outcome { answer, guarded: lists.iter().map(|list| guarded(list)).collect() }

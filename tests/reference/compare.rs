@@ -1,11 +1,11 @@
-//! The lesson program under test, compared byte for byte with what it should print.
+//! A program under test, the lesson program or the report program, compared byte for byte with what it should print.
 
 use crate::draw::Dice;
-use crate::files::made;
 use crate::lesson::{lesson, Lesson, MOST_WORDS};
 use crate::show::{difference, excerpt, hex};
 use crate::tally::Tally;
-use std::collections::BTreeMap;
+use crate::text::Text;
+use std::collections::BTreeSet;
 use std::io::{ErrorKind, Write};
 use std::process::{ChildStdin, Command, Output, Stdio};
 use std::sync::atomic::{AtomicUsize, Ordering};
@@ -90,8 +90,8 @@ fn fault(output: &Output, want: &[u8]) -> Option<String> {
     }
 }
 
-/// What the lesson program should do. Its word buffer starts as 1,792 zeros.
-pub fn run_expected(file: &[u8]) -> Lesson {
+/// What a program should read of a file. Its word buffer starts as 1,792 zeros.
+pub fn read(file: &[u8]) -> Lesson {
     lesson(file, &mut [0; MOST_WORDS as usize])
 }
 
@@ -103,15 +103,15 @@ struct Case {
 }
 
 /// The stored output is the program's and the one worked out. Answers how many cases are wrong.
-fn wrong_cases(program: &str, cases: &[Case]) -> usize {
+fn wrong_cases(text: Text, program: &str, cases: &[Case]) -> usize {
     let mut wrong = 0;
     for case in cases {
         let run = fault(&run(program, &case.file, Delivery::AtOnce), &case.output);
-        let worked_out = difference(&run_expected(&case.file).printed, &case.output);
-        for (what, text) in [("the program", run), ("worked out", worked_out)] {
-            if let Some(text) = text {
+        let worked_out = difference(&text.of(&read(&case.file)), &case.output);
+        for (what, fault) in [("the program", run), ("worked out", worked_out)] {
+            if let Some(fault) = fault {
                 wrong += 1;
-                eprintln!("{}, {what}:{}\n{text}", case.name, hex(&case.file));
+                eprintln!("{}, {what}:{}\n{fault}", case.name, hex(&case.file));
             }
         }
     }
@@ -145,29 +145,25 @@ fn stored_cases(path: &str) -> Vec<Case> {
     cases
 }
 
-/// NAME.lesson with NAME.txt for each name.
-fn example_cases(folder: &str) -> Vec<Case> {
-    let mut found: BTreeMap<String, [Option<Vec<u8>>; 2]> = BTreeMap::new();
+/// For each name NAME.lesson with the lesson program's text in NAME.txt or the report in NAME.report.
+fn example_cases(text: Text, folder: &str) -> Vec<Case> {
+    let mut names = BTreeSet::new();
     for entry in std::fs::read_dir(folder).unwrap_or_else(|error| panic!("{folder}: {error}")) {
-        let path = entry.expect("a folder entry").path();
-        let file_name = path.file_name().and_then(|name| name.to_str()).expect("a name in UTF-8").to_string();
-        let (name, part) = match (file_name.strip_suffix(".lesson"), file_name.strip_suffix(".txt")) {
-            (Some(name), _) => (name, 0),
-            (_, Some(name)) => (name, 1),
+        let file_name = entry.expect("a folder entry").file_name().into_string().expect("a name in UTF-8");
+        match file_name.rsplit_once('.') {
+            Some((name, "lesson" | "txt" | "report")) => names.insert(name.to_string()),
             // A program in C stands there too.
             _ if file_name == "sample.c" => continue,
-            _ => panic!("{folder}: {file_name} is neither .lesson nor .txt"),
+            _ => panic!("{folder}: {file_name} is no lesson and no text of one"),
         };
-        let bytes = std::fs::read(&path).unwrap_or_else(|error| panic!("{file_name}: {error}"));
-        found.entry(name.to_string()).or_default()[part] = Some(bytes);
     }
-    assert!(!found.is_empty(), "{folder} is empty");
-    let case = |(name, parts): (String, [Option<Vec<u8>>; 2])| match parts {
-        [Some(file), Some(output)] => Case { name, file, output },
-        [None, _] => panic!("{folder}: {name}.txt without {name}.lesson"),
-        [_, None] => panic!("{folder}: {name}.lesson without {name}.txt"),
+    assert!(!names.is_empty(), "{folder} is empty");
+    let read = |name: &str, ending: &str| {
+        let path = format!("{folder}/{name}.{ending}");
+        std::fs::read(&path).unwrap_or_else(|error| panic!("{path}: {error}"))
     };
-    found.into_iter().map(case).collect()
+    let ending = if text == Text::Lesson { "txt" } else { "report" };
+    names.into_iter().map(|name| Case { file: read(&name, "lesson"), output: read(&name, ending), name }).collect()
 }
 
 /// Some of the short files and more of the long ones go through the pipe in small pieces.
@@ -182,6 +178,7 @@ fn delivery(seed: u64, number: usize, file: &[u8]) -> Delivery {
 
 /// Files made from a seed, shared out by number.
 struct Made<'a> {
+    text: Text,
     program: &'a str,
     seed: u64,
     count: usize,
@@ -198,23 +195,23 @@ impl Made<'_> {
             if number >= self.count {
                 break;
             }
-            let (kind, file) = made(self.seed, number);
-            let want = run_expected(&file);
+            let (kind, file) = self.text.made_file(self.seed, number);
+            let lesson = read(&file);
             let output = run(self.program, &file, delivery(self.seed, number, &file));
-            if let Some(text) = fault(&output, &want.printed) {
+            if let Some(fault) = fault(&output, &self.text.of(&lesson)) {
                 if self.differences.fetch_add(1, Ordering::SeqCst) < MOST_DIFFERENCES {
-                    eprintln!("seed {}, file {number} ({kind}, {} bytes):{}\n{text}", self.seed, file.len(), hex(&file));
+                    eprintln!("seed {}, file {number} ({kind}, {} bytes):{}\n{fault}", self.seed, file.len(), hex(&file));
                 }
             }
-            self.tally.lock().expect("the tally").count(&want);
+            self.tally.lock().expect("the tally").count(&lesson, file.len());
         }
     }
 }
 
 /// Answers how many files made from the seed are wrong, and how much they should have met and did not.
-fn wrong_made_files(program: &str, seed: u64, count: usize) -> usize {
+fn wrong_made_files(text: Text, program: &str, seed: u64, count: usize) -> usize {
     let (next, differences) = (AtomicUsize::new(0), AtomicUsize::new(0));
-    let made = Made { program, seed, count, next, differences, tally: Mutex::default() };
+    let made = Made { text, program, seed, count, next, differences, tally: Mutex::new(Tally::new(text)) };
     thread::scope(|scope| {
         scope.spawn(|| made.compare());
         made.compare();
@@ -228,13 +225,13 @@ fn wrong_made_files(program: &str, seed: u64, count: usize) -> usize {
 }
 
 /// Compares the program with the stored cases, the examples and the files made from a seed.
-pub fn is_right(program: &str, stored: &str, examples: &str, seed: u64, count: usize) -> bool {
+pub fn is_right(text: Text, program: &str, stored: &str, examples: &str, seed: u64, count: usize) -> bool {
     if count < FEWEST_FILES {
         eprintln!("{count} files are too few, at least {FEWEST_FILES} are made");
         return false;
     }
-    let (stored, examples) = (stored_cases(stored), example_cases(examples));
-    let wrong = wrong_cases(program, &stored) + wrong_cases(program, &examples) + wrong_made_files(program, seed, count);
-    println!("lessons: {} stored cases, {} examples, {count} made files, {wrong} wrong", stored.len(), examples.len());
+    let (stored, examples) = (stored_cases(stored), example_cases(text, examples));
+    let wrong = wrong_cases(text, program, &stored) + wrong_cases(text, program, &examples) + wrong_made_files(text, program, seed, count);
+    println!("{}: {} stored cases, {} examples, {count} made files, {wrong} wrong", text.name(), stored.len(), examples.len());
     wrong == 0
 }

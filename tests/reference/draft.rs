@@ -3,9 +3,9 @@
 use crate::call::{text_room, Call, Function};
 use crate::calls::{bit_words, words_needed};
 use crate::draw::{modulus, random_words, shares, too_high, too_wide, unjudged_word, Dice};
-use crate::files;
 use crate::lesson::MOST_WORDS;
 use crate::start;
+use crate::text::Text;
 use std::ops::Range;
 use Fault::*;
 
@@ -75,11 +75,11 @@ fn residue(dice: &mut Dice, q: u64) -> u64 {
     dice.pick(&[0, q - 1, q / 2, (q - 1) / 2, q / 2 - 1, any, any, any])
 }
 
-/// The file of a number, and buffers for its words and its text.
-fn lesson_lists(dice: &mut Dice, seed: u64, turn: usize) -> Vec<Vec<u64>> {
-    let file = files::made(seed, turn).1;
-    let room_needed = text_room(file.len()) as u64;
-    vec![file.into_iter().map(u64::from).collect(), words_room(dice, MOST_WORDS), room(dice, room_needed, 40, 256)]
+/// The file of a number, and buffers for its words and its text; and how many elements of each are needed.
+fn lesson_lists(dice: &mut Dice, seed: u64, turn: usize, text: Text) -> (Vec<Vec<u64>>, Vec<u64>) {
+    let file = text.made_file(seed, turn).1;
+    let needed = vec![file.len() as u64, MOST_WORDS, text_room(text, file.len()) as u64];
+    (vec![file.into_iter().map(u64::from).collect(), words_room(dice, MOST_WORDS), room(dice, needed[2], 40, 256)], needed)
 }
 
 /// A good call. If n and k are unfit, nothing else is.
@@ -107,9 +107,8 @@ pub fn good(dice: &mut Dice, seed: u64, turn: usize, function: Function, [n, k, 
             let lists = vec![x, y, words_lent(dice, q, start, needed[2]), words_room(dice, needed[3]), words_room(dice, needed[4])];
             (vec![n, k, q, if function == Function::Sample { start } else { m }], lists, needed)
         }
-        Function::LessonText => {
-            let lists = lesson_lists(dice, seed, turn);
-            let needed = vec![lists[0].len() as u64, MOST_WORDS, text_room(lists[0].len()) as u64];
+        Function::LessonText | Function::ReportText => {
+            let (lists, needed) = lesson_lists(dice, seed, turn, function.text().expect("one of two texts"));
             (vec![], lists, needed)
         }
     };

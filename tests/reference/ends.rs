@@ -1,4 +1,4 @@
-//! What the lesson program's standard input and output are joined to.
+//! What a program's standard input and output are joined to.
 
 use crate::compare::Delivery;
 use crate::draw::Dice;
@@ -37,14 +37,19 @@ pub enum Sink {
     Pipe,
     Full,
     Closed,
-    /// Has room for a part of a long text.
+    /// Has room for some 25,000 bytes: a part of a long text.
     Crowded,
+    /// Has no room.
+    Stuffed,
     /// Nobody reads it.
     Abandoned,
 }
 
-/// What stands in a crowded pipe already.
-const CROWD: [u8; 40_000] = [b'.'; 40_000];
+/// What a pipe has room for.
+const PIPE_ROOM: usize = 65_536;
+
+/// What stands in a stuffed pipe already, and in a crowded one the front of it.
+static CROWD: [u8; PIPE_ROOM] = [b'.'; PIPE_ROOM];
 
 /// A name for a file or a pipe that is opened at once and then has none.
 fn short_lived_name() -> PathBuf {
@@ -109,24 +114,33 @@ impl Input {
 }
 
 impl Sink {
-    /// The program's standard output, and for a crowded pipe that pipe.
+    /// What stands there already.
+    fn crowd(self) -> &'static [u8] {
+        match self {
+            Sink::Crowded => &CROWD[..40_000],
+            Sink::Stuffed => &CROWD,
+            _ => &[],
+        }
+    }
+
+    /// The program's standard output, and that pipe where something stands in it.
     pub fn open(self) -> (Stdio, Option<File>) {
         match self {
             Sink::Full => (OpenOptions::new().write(true).open("/dev/full").expect("/dev/full").into(), None),
             Sink::Abandoned => (OwnedFd::from(UnixStream::pair().expect("a pair of sockets").0).into(), None),
             Sink::Pipe | Sink::Closed => (Stdio::piped(), None),
-            Sink::Crowded => {
-                let pipe = silent_pipe(&CROWD);
+            Sink::Crowded | Sink::Stuffed => {
+                let pipe = silent_pipe(self.crowd());
                 (pipe.try_clone().expect("the pipe").into(), Some(pipe))
             }
         }
     }
-}
 
-/// What came into a crowded pipe.
-pub fn added(mut pipe: File) -> Vec<u8> {
-    let mut bytes = Vec::new();
-    let end = pipe.read_to_end(&mut bytes).expect_err("the pipe never comes to its end");
-    assert_eq!(end.kind(), ErrorKind::WouldBlock, "{end}");
-    bytes.split_off(CROWD.len())
+    /// What came into such a pipe.
+    pub fn added(self, mut pipe: File) -> Vec<u8> {
+        let mut bytes = Vec::new();
+        let end = pipe.read_to_end(&mut bytes).expect_err("the pipe never comes to its end");
+        assert_eq!(end.kind(), ErrorKind::WouldBlock, "{end}");
+        bytes.split_off(self.crowd().len())
+    }
 }

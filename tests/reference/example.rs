@@ -1,8 +1,8 @@
 //! Lessons for the published parameter sets.
 
-use crate::calls::{mask, parameter_set, weight_difference, words_needed};
+use crate::calls::{parameter_set, weight_difference, words_needed};
 use crate::draw::Dice;
-use crate::files::Sample;
+use crate::samples::{masked, Sample};
 
 /// Two strings of k bits whose weight difference has the sign asked for.
 fn strings_of_sign(dice: &mut Dice, k: u64, sign: i64) -> (u64, u64) {
@@ -12,14 +12,6 @@ fn strings_of_sign(dice: &mut Dice, k: u64, sign: i64) -> (u64, u64) {
             return (x, y);
         }
     }
-}
-
-/// n shares of a string: masks drawn evenly, and the string XOR all masks.
-fn masked(dice: &mut Dice, n: u64, k: u64, string: u64) -> Vec<u64> {
-    let masks: Vec<u64> = (1..n).map(|_| dice.below(1 << k)).collect();
-    let mut out = vec![0; n as usize];
-    mask(n, k, string, &masks, &mut out).expect("a string of k bits");
-    out
 }
 
 /// A lesson for a published parameter set: three to six samples with different n; negative, zero and positive ones among them.

@@ -1,93 +1,9 @@
 //! Lesson files made from a seed: good ones, and ones damaged in each way that document 01 refuses.
 
 use crate::calls::words_needed;
-use crate::draw::{modulus, random_words, shares, too_high, too_wide, unjudged_word, Dice};
+use crate::draw::{random_words, too_high, too_wide, Dice};
 use crate::lesson::{MOST_BYTES, MOST_WORDS};
-
-/// Two bytes a word, the low byte first.
-fn bytes_of(words: &[u64]) -> Vec<u8> {
-    words.iter().flat_map(|word| (*word as u16).to_le_bytes()).collect()
-}
-
-/// The fields of a sample's records. RW's count stands by itself, as it may be wrong.
-pub struct Sample {
-    pub n: u64,
-    pub k: u64,
-    pub q: u64,
-    pub x: Vec<u64>,
-    pub y: Vec<u64>,
-    pub x_first: bool,
-    pub count: u64,
-    pub words: Vec<u64>,
-}
-
-impl Sample {
-    /// The four records in the order of the file.
-    fn records(&self) -> [Vec<u8>; 4] {
-        let parameters = [b"PM", &[self.n as u8, self.k as u8][..], &bytes_of(&[self.q])].concat();
-        let x = [&b"XB"[..], &bytes_of(&self.x)].concat();
-        let y = [&b"YB"[..], &bytes_of(&self.y)].concat();
-        let random = [&b"RW"[..], &bytes_of(&[self.count]), &bytes_of(&self.words)].concat();
-        if self.x_first {
-            [parameters, x, y, random]
-        } else {
-            [parameters, y, x, random]
-        }
-    }
-
-    pub fn bytes(&self) -> Vec<u8> {
-        self.records().concat()
-    }
-
-    /// The words and their right count.
-    fn set_words(&mut self, words: Vec<u64>) {
-        self.count = words.len() as u64;
-        self.words = words;
-    }
-
-    /// The list that comes first in the file.
-    fn first_list(&mut self) -> &mut Vec<u64> {
-        if self.x_first {
-            &mut self.x
-        } else {
-            &mut self.y
-        }
-    }
-}
-
-/// A good sample with exactly W words.
-fn good(dice: &mut Dice, n: u64, k: u64) -> Sample {
-    let q = modulus(dice, k);
-    let (x, y, x_first) = (shares(dice, n, k), shares(dice, n, k), dice.one_in(2));
-    let words = random_words(dice, q, words_needed(n, k));
-    Sample { n, k, q, x, y, x_first, count: words.len() as u64, words }
-}
-
-/// Words past W are not judged and may be q or more.
-fn lengthen(dice: &mut Dice, sample: &mut Sample, count: u64) {
-    while sample.count < count {
-        sample.words.push(unjudged_word(dice, sample.q));
-        sample.count += 1;
-    }
-}
-
-/// A good sample, mostly a short one.
-fn any_good(dice: &mut Dice) -> Sample {
-    let wide = dice.one_in(8);
-    let (n, k) = if wide { (dice.between(2, 8), dice.between(1, 16)) } else { (dice.between(2, 4), dice.between(1, 3)) };
-    let mut sample = good(dice, n, k);
-    if dice.one_in(6) {
-        let count = dice.between(sample.count, MOST_WORDS.min(sample.count + 20));
-        lengthen(dice, &mut sample, count);
-    }
-    sample
-}
-
-/// A good sample whose shares have bits that must be zero.
-fn narrow_good(dice: &mut Dice) -> Sample {
-    let (n, k) = (dice.between(2, 5), dice.pick(&[1, 2, 3, 8, 15]));
-    good(dice, n, k)
-}
+use crate::samples::{any_good, good, lengthen, narrow_good, Sample};
 
 /// Good samples that stand before the damaged one, where there are any.
 fn earlier(dice: &mut Dice, later: bool) -> Vec<u8> {
@@ -200,7 +116,7 @@ fn make_unfit(dice: &mut Dice, sample: &mut Sample, form: usize) {
 }
 
 /// PM is put to questions 1 to 3 at once, whatever stands behind it.
-fn unfit_parameters(dice: &mut Dice, turn: usize) -> Vec<u8> {
+pub fn unfit_parameters(dice: &mut Dice, turn: usize) -> Vec<u8> {
     let mut sample = any_good(dice);
     make_unfit(dice, &mut sample, turn / 2);
     let damaged = if dice.one_in(2) { sample.bytes() } else { sample.records()[0].clone() };
@@ -224,7 +140,7 @@ fn widen(dice: &mut Dice, list: &mut [u64], k: u64) {
 }
 
 /// Each share of each number of shares, in x, in y and in both, in both orders of the lists.
-fn wide_shares(dice: &mut Dice, turn: usize) -> Vec<u8> {
+pub fn wide_shares(dice: &mut Dice, turn: usize) -> Vec<u8> {
     let every_share: Vec<(u64, usize)> = (2..=8).flat_map(|n| (0..n as usize).map(move |place| (n, place))).collect();
     let (n, place) = every_share[turn % 35];
     let k = dice.pick(&[1, 2, 3, 15]);
@@ -249,7 +165,7 @@ fn shorten(dice: &mut Dice, sample: &mut Sample, form: usize) {
 }
 
 /// RW counts fewer words than W; at times more of them stand behind the counted ones.
-fn few_words(dice: &mut Dice, turn: usize) -> Vec<u8> {
+pub fn few_words(dice: &mut Dice, turn: usize) -> Vec<u8> {
     let mut sample = any_good(dice);
     let words = sample.words.clone();
     shorten(dice, &mut sample, turn / 2);
@@ -280,7 +196,7 @@ fn make_high(dice: &mut Dice, sample: &mut Sample, place: usize) {
 }
 
 /// The first, the last and a middle word of the W.
-fn high_words(dice: &mut Dice, turn: usize) -> Vec<u8> {
+pub fn high_words(dice: &mut Dice, turn: usize) -> Vec<u8> {
     let mut sample = any_good(dice);
     let needed = words_needed(sample.n, sample.k);
     let middle = dice.between(1, needed - 2) as usize;
@@ -362,7 +278,7 @@ fn wrong_mark(dice: &mut Dice, record: &[u8], form: usize) -> [u8; 2] {
 }
 
 /// Each of the four records with each wrong mark.
-fn wrong_marks(dice: &mut Dice, turn: usize) -> Vec<u8> {
+pub fn wrong_marks(dice: &mut Dice, turn: usize) -> Vec<u8> {
     let mut records = any_good(dice).records();
     let record = &mut records[turn % 4];
     let mark = wrong_mark(dice, record, turn / 8);
@@ -386,7 +302,7 @@ const TO_CUT: [(u64, u64, usize, bool); 7] =
     [(2, 1, 0, true), (2, 1, 0, false), (2, 1, 1, true), (2, 1, 2, false), (3, 1, 0, true), (3, 1, 1, false), (2, 2, 0, true)];
 
 /// Every other turn takes the next of all the cuts of the short samples.
-fn cut_after_every_byte(dice: &mut Dice, turn: usize) -> Vec<u8> {
+pub fn cut_after_every_byte(dice: &mut Dice, turn: usize) -> Vec<u8> {
     if turn % 2 == 1 {
         return cut_anywhere(dice, turn);
     }
@@ -428,7 +344,7 @@ fn damaged_and_cut(dice: &mut Dice, turn: usize) -> Vec<u8> {
 // 20.
 
 /// Counts above 1,792, with none or some or all of the words behind; and a count that is cut, or just not too high.
-fn high_counts(dice: &mut Dice, turn: usize) -> Vec<u8> {
+pub fn high_counts(dice: &mut Dice, turn: usize) -> Vec<u8> {
     let mut sample = any_good(dice);
     sample.count = match turn % 6 {
         0 => 1_793,
@@ -564,16 +480,18 @@ fn record_left_out(dice: &mut Dice, _: usize) -> Vec<u8> {
 }
 
 /// Bytes behind a complete sample.
-fn bytes_behind(dice: &mut Dice, turn: usize) -> Vec<u8> {
+pub fn bytes_behind(dice: &mut Dice, turn: usize) -> Vec<u8> {
     let behind: [&[u8]; 12] = [b"P", b"X", b"\0", b"\n", b"PM", b"RW", b"XB", b"\0\0", b"\n\n", b"PM\x02", b"PM\x02\x01\x11", b"PM\x02\x01\x02\0"];
     [earlier(dice, true), behind[turn % behind.len()].to_vec()].concat()
 }
 
 /// Makes a file of one kind from the numbers drawn and from how many of the kind came before it.
-type Maker = fn(&mut Dice, usize) -> Vec<u8>;
+pub type Maker = fn(&mut Dice, usize) -> Vec<u8>;
 
-/// The kinds of files, and how many of each in a round.
-const KINDS: [(&str, usize, Maker); 30] = [
+/// A kind of files, and how many of it in a round.
+pub type Kind = (&'static str, usize, Maker);
+
+pub const KINDS: [Kind; 30] = [
     ("every pair of n and k", 4, every_pair),
     ("more words than W", 4, more_words),
     ("several samples", 3, several_samples),
@@ -606,11 +524,11 @@ const KINDS: [(&str, usize, Maker); 30] = [
     ("bytes behind the last sample", 3, bytes_behind),
 ];
 
-/// The file of a number, and its kind.
-pub fn made(seed: u64, number: usize) -> (&'static str, Vec<u8>) {
-    let round: usize = KINDS.iter().map(|kind| kind.1).sum();
+/// The file of a number, which is of one of the kinds, and the kind's name.
+pub fn made(kinds: &[Kind], seed: u64, number: usize) -> (&'static str, Vec<u8>) {
+    let round: usize = kinds.iter().map(|kind| kind.1).sum();
     let mut place = number % round;
-    let mut kinds = KINDS.iter();
+    let mut kinds = kinds.iter();
     loop {
         let (name, times, maker) = kinds.next().expect("a place inside the round");
         if place < *times {

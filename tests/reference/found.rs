@@ -4,6 +4,7 @@
 use crate::call::{counted, judged, Answer, Call, Function, Outcome};
 use crate::calls::Verdict;
 use crate::lent::Lent;
+use crate::text::Text;
 use tinplateau::ffi::*;
 use tinplateau::{OpenedResidue, OpenedString, Refusal};
 
@@ -81,8 +82,8 @@ fn signed(result: Result<i32, Refusal>) -> Answer {
 impl Call {
     /// How it ends through the layer.
     pub fn found(&self, layer: Layer) -> Outcome {
-        if self.function == Function::LessonText {
-            return self.lesson_text(layer);
+        if let Some(text) = self.function.text() {
+            return self.text_of_file(text, layer);
         }
         let mut lent: Vec<Lent<u16>> = self.lists.iter().map(|list| layer.lent(list)).collect();
         let answer = match layer {
@@ -153,14 +154,20 @@ impl Call {
         }
     }
 
-    fn lesson_text(&self, layer: Layer) -> Outcome {
-        let (mut file, mut text): (Lent<u8>, Lent<u8>) = (layer.lent(&self.lists[0]), layer.lent(&self.lists[2]));
+    fn text_of_file(&self, text: Text, layer: Layer) -> Outcome {
+        let (mut file, mut out): (Lent<u8>, Lent<u8>) = (layer.lent(&self.lists[0]), layer.lent(&self.lists[2]));
         let mut words: Lent<u16> = layer.lent(&self.lists[1]);
         let answer = match layer {
-            // As above.
-            Layer::C { .. } => unsafe { tp_lesson_text(file.start(), file.len(), words.start(), words.len(), text.start(), text.len()).into() },
-            Layer::Slices => count(tinplateau::lesson_text(file.list(), words.list_mut(), text.list_mut())),
+            Layer::C { .. } => {
+                let call = if text == Text::Lesson { tp_lesson_text } else { tp_report_text };
+                // As above.
+                unsafe { call(file.start(), file.len(), words.start(), words.len(), out.start(), out.len()).into() }
+            }
+            Layer::Slices => {
+                let call = if text == Text::Lesson { tinplateau::lesson_text } else { tinplateau::report_text };
+                count(call(file.list(), words.list_mut(), out.list_mut()))
+            }
         };
-        Outcome { answer, guarded: vec![file.whole(), words.whole(), text.whole()] }
+        Outcome { answer, guarded: vec![file.whole(), words.whole(), out.whole()] }
     }
 }

@@ -5,7 +5,7 @@ use crate::draft::{self, Fault, Fault::*};
 use crate::draw::Dice;
 
 /// The functions, how many calls of each in a round, and their faults in the order of the checks.
-const KINDS: [(Function, usize, &[Fault]); 10] = [
+const KINDS: [(Function, usize, &[Fault]); 11] = [
     (Function::Mask, 12, &[N, K, Wide("value"), Length("masks"), Wide("masks"), Short("out")]),
     (Function::OpenString, 8, &[N, K, Length("shares"), Wide("shares")]),
     (Function::OpenResidue, 8, &[N, Q, Length("shares"), High("shares")]),
@@ -24,6 +24,7 @@ const KINDS: [(Function, usize, &[Fault]); 10] = [
         &[N, K, Q, M, Length("x"), Length("y"), Wide("x"), Wide("y"), Short("words"), High("words"), Short("out"), Short("work")],
     ),
     (Function::LessonText, 5, &[Short("words"), Short("text")]),
+    (Function::ReportText, 5, &[Short("words"), Short("text")]),
 ];
 
 /// No fault, each alone, each two together, and any three.

@@ -1,4 +1,4 @@
-//! The lesson program of document 01: what it should print for the bytes of a file.
+//! The lesson files of document 01: what is read of the bytes of a file, and what the lesson program should print for it.
 
 use crate::calls::{centre, open_residue, open_string, parameters, sample, weight_difference};
 
@@ -37,19 +37,39 @@ pub struct Refusal {
     pub cut: Cut,
 }
 
-/// A sample that the program prints a line for.
+impl Refusal {
+    /// As the programs print it.
+    pub fn line(&self) -> String {
+        format!("refused {} {}\n", self.number, self.file_place)
+    }
+}
+
+/// A complete sample, and the lesson program's line for it.
 pub struct Accepted {
     pub n: u64,
     pub k: u64,
+    pub q: u64,
     pub x_first: bool,
+    pub centred: i64,
     line: String,
 }
 
-/// A whole run of the lesson program.
+/// What is read of a file: the samples up to its end or a refusal.
 pub struct Lesson {
-    pub printed: Vec<u8>,
     pub accepted: Vec<Accepted>,
     pub refusal: Option<Refusal>,
+}
+
+impl Lesson {
+    /// The lesson program's text: the header, a line for each sample, and the refusal where there is one.
+    pub fn text(&self) -> Vec<u8> {
+        let mut text = "no n k q used sample shares\n".to_string();
+        for sample in &self.accepted {
+            text += &sample.line;
+        }
+        text.extend(self.refusal.map(|refusal| refusal.line()));
+        text.into_bytes()
+    }
 }
 
 /// A mark that was allowed, and its offset.
@@ -147,7 +167,7 @@ impl<'a> Reader<'a> {
             Ok(used) => {
                 let centred = centred_sample(n, k, q, [x, y], &out);
                 let shares: String = out.iter().map(|share| format!(" {share}")).collect();
-                Ok(Accepted { n, k, x_first, line: format!("{number} {n} {k} {q} {used} {centred}{shares}\n") })
+                Ok(Accepted { n, k, q, x_first, centred, line: format!("{number} {n} {k} {q} {used} {centred}{shares}\n") })
             }
             Err((refused, _)) => {
                 let concerned = match refused {
@@ -178,31 +198,18 @@ fn centred_sample(n: u64, k: u64, q: u64, strings: [&[u64]; 2], shares: &[u64]) 
     centred
 }
 
-/// The samples up to the end of the file or a refusal. A file that ends after a complete sample is complete.
-fn samples(file: &[u8], buffer: &mut [u64]) -> (Vec<Accepted>, Option<Refusal>) {
+/// Reads a file. One that ends after a complete sample is complete. The word buffer has 1,792 places or more.
+pub fn lesson(file: &[u8], buffer: &mut [u64]) -> Lesson {
     let mut accepted = Vec::new();
     if file.len() > MOST_BYTES {
-        return (accepted, Some(Refusal { number: 21, file_place: 0, record: Record::File, cut: Cut::Nowhere }));
+        return Lesson { accepted, refusal: Some(Refusal { number: 21, file_place: 0, record: Record::File, cut: Cut::Nowhere }) };
     }
     let mut reader = Reader { file, at: 0, buffer };
     while reader.left() > 0 {
         match reader.sample(accepted.len() + 1) {
             Ok(sample) => accepted.push(sample),
-            Err(refusal) => return (accepted, Some(refusal)),
+            Err(refusal) => return Lesson { accepted, refusal: Some(refusal) },
         }
     }
-    (accepted, None)
-}
-
-/// The header, a line for each sample, and the refusal where there is one. The word buffer has 1,792 places or more.
-pub fn lesson(file: &[u8], buffer: &mut [u64]) -> Lesson {
-    let (accepted, refusal) = samples(file, buffer);
-    let mut printed = "no n k q used sample shares\n".to_string();
-    for sample in &accepted {
-        printed += &sample.line;
-    }
-    if let Some(r) = refusal {
-        printed += &format!("refused {} {}\n", r.number, r.file_place);
-    }
-    Lesson { printed: printed.into_bytes(), accepted, refusal }
+    Lesson { accepted, refusal: None }
 }

@@ -10,24 +10,30 @@ mod draw;
 mod files;
 mod found;
 mod inputs;
+mod kinds;
 mod lent;
 mod lesson;
 mod met;
 mod polynomial;
+mod report;
+mod report_files;
+mod report_met;
+mod samples;
 mod secrecy;
 mod show;
 mod start;
 mod tally;
+mod text;
 mod walk;
 
 use call::{bytes, Call, Function, Outcome};
 use draw::Dice;
 use found::Layer;
-use lesson::{lesson, MOST_BYTES, MOST_WORDS};
+use lesson::{lesson, MOST_WORDS};
 use met::Met;
-use std::collections::BTreeSet;
 use std::process::exit;
-use tally::{print_gaps, Tally};
+use tally::Tally;
+use text::Text;
 use walk::Walk;
 
 /// Fewer made calls than this say too little.
@@ -39,7 +45,6 @@ const CALLS_TO_A_WALK: usize = 150;
 /// After so many differences the rest is not tried.
 const MOST_DIFFERENCES: usize = 5;
 
-#[derive(Default)]
 struct Comparison {
     seed: u64,
     compared: usize,
@@ -47,11 +52,17 @@ struct Comparison {
     through_c: Met,
     through_slices: Met,
     lessons: Tally,
-    file_lengths: BTreeSet<usize>,
+    reports: Tally,
     walks: usize,
 }
 
 impl Comparison {
+    fn new(seed: u64) -> Comparison {
+        let (through_c, through_slices) = (Met::default(), Met::default());
+        let (lessons, reports) = (Tally::new(Text::Lesson), Tally::new(Text::Report));
+        Comparison { seed, compared: 0, differences: 0, through_c, through_slices, lessons, reports, walks: 0 }
+    }
+
     fn differs(&mut self, call: &Call, text: &str) {
         self.differences += 1;
         eprintln!("{}\n{text}", call.show());
@@ -117,10 +128,8 @@ impl Comparison {
             _ if outcome.answer.code != 0 => (),
             Function::Sample | Function::SamplePolynomial => self.open_coefficients(call, &outcome),
             Function::Mask => self.open_mask(call, &outcome),
-            Function::LessonText => {
-                self.lessons.count(&lesson(&bytes(&call.lists[0]), &mut [0; MOST_WORDS as usize]));
-                self.file_lengths.insert(call.lists[0].len());
-            }
+            Function::LessonText => count_file(&mut self.lessons, call),
+            Function::ReportText => count_file(&mut self.reports, call),
             _ => (),
         }
     }
@@ -147,11 +156,15 @@ impl Comparison {
     fn print(&self, made: usize) -> usize {
         println!("library: {made} calls made, {} compared with those that follow from them", self.compared);
         println!("  {} walks through one list of words, by calls that hand the position on", self.walks);
-        let lengths = [MOST_BYTES, MOST_BYTES + 1];
-        let missing: Vec<usize> = lengths.into_iter().filter(|length| !self.file_lengths.contains(length)).collect();
-        let gaps: Vec<String> = missing.iter().map(|length| format!("no file of {length} bytes")).collect();
-        self.through_c.print("the C functions") + self.through_slices.print("the Rust bindings") + self.lessons.print() + print_gaps(&gaps)
+        let calls = self.through_c.print("the C functions") + self.through_slices.print("the Rust bindings");
+        calls + self.lessons.print() + self.reports.print()
     }
+}
+
+/// The file of an accepted call.
+fn count_file(tally: &mut Tally, call: &Call) {
+    let file = bytes(call.list("file"));
+    tally.count(&lesson(&file, &mut [0; MOST_WORDS as usize]), file.len());
 }
 
 /// Whether the library agrees on every call made from the seed.
@@ -160,7 +173,8 @@ fn agrees(seed: u64, count: usize) -> bool {
         eprintln!("{count} calls are too few, at least {FEWEST_CALLS} are made");
         return false;
     }
-    let mut comparison = Comparison { seed, ..Comparison::default() };
+    report::check_pairs();
+    let mut comparison = Comparison::new(seed);
     for number in 0..count {
         comparison.take(&inputs::made(seed, number));
         if number % CALLS_TO_A_WALK == 0 {

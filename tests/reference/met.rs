@@ -1,7 +1,7 @@
 //! What the compared calls met: which function accepted or refused, why and at which places.
 
 use crate::call::{Answer, Call, Function, FUNCTIONS};
-use crate::tally::print_gaps;
+use crate::kinds::{print_gaps, Kinds};
 use crate::{polynomial, start};
 use std::collections::{BTreeMap, BTreeSet};
 
@@ -9,7 +9,6 @@ use std::collections::{BTreeMap, BTreeSet};
 const FEWEST_OF_A_KIND: usize = 10;
 
 /// Counts over the calls of one function.
-#[derive(Default)]
 struct Counts {
     by_code: BTreeMap<u64, usize>,
     /// The places of each refusal, for 9 counted from the start.
@@ -17,7 +16,7 @@ struct Counts {
     /// The n and k of the accepted calls.
     pairs: BTreeSet<(u64, u64)>,
     /// What else the calls met, and how often.
-    kinds: BTreeMap<String, usize>,
+    kinds: Kinds,
 }
 
 /// What else the calls of a function are to meet.
@@ -47,11 +46,9 @@ pub struct Met {
 impl Met {
     /// One call more.
     pub fn count(&mut self, call: &Call, answer: Answer) {
-        let counts = self.functions.entry(call.function).or_default();
+        let counts = self.functions.entry(call.function).or_insert_with(|| Counts::new(call.function));
         *counts.by_code.entry(answer.code).or_default() += 1;
-        for kind in kinds_met(call, answer) {
-            *counts.kinds.entry(kind).or_default() += 1;
-        }
+        counts.kinds.count(&kinds_met(call, answer));
         if answer.code != 0 {
             let from = if answer.code == 9 { call.number("start").unwrap_or(0) } else { 0 };
             counts.places.entry(answer.code).or_default().insert(answer.place - from);
@@ -63,9 +60,9 @@ impl Met {
     /// Prints what the calls went through and a line for each function, and what is missing. Answers how much that is.
     pub fn print(&self, layer: &str) -> usize {
         println!("  {} calls through {layer}:", self.functions.values().map(Counts::all).sum::<usize>());
-        let none = Counts::default();
         let mut gaps = Vec::new();
         for function in FUNCTIONS {
+            let none = Counts::new(function);
             let counts = self.functions.get(&function).unwrap_or(&none);
             println!("  {}", counts.line(function));
             gaps.extend(counts.gaps(function).into_iter().map(|gap| format!("{layer}: {gap}")));
@@ -75,16 +72,16 @@ impl Met {
 }
 
 impl Counts {
+    fn new(function: Function) -> Counts {
+        Counts { by_code: BTreeMap::new(), places: BTreeMap::new(), pairs: BTreeSet::new(), kinds: Kinds::new(kinds_to_meet(function)) }
+    }
+
     fn all(&self) -> usize {
         self.by_code.values().sum()
     }
 
     fn times(&self, code: u64) -> usize {
         self.by_code.get(&code).copied().unwrap_or(0)
-    }
-
-    fn of_kind(&self, kind: &str) -> usize {
-        self.kinds.get(kind).copied().unwrap_or(0)
     }
 
     fn places(&self, number: u64) -> BTreeSet<u64> {
@@ -98,7 +95,7 @@ impl Counts {
             format!("{number}: {}{places}", self.times(*number))
         };
         let refusals: Vec<String> = form.refusals.iter().map(refusal).collect();
-        let kinds: String = kinds_to_meet(function).iter().map(|kind| format!("; {kind}: {}", self.of_kind(kind))).collect();
+        let kinds: String = self.kinds.lines().map(|line| format!("; {line}")).collect();
         format!("{} {}, accepted {}, refused {}{kinds}", form.name, self.all(), self.times(0), refusals.join(", "))
     }
 
@@ -120,9 +117,7 @@ impl Counts {
         if form.numbers.starts_with(&["n", "k"]) && self.pairs.len() != 7 * 16 {
             gaps.push(format!("{} accepts only {} pairs of n and k", form.name, self.pairs.len()));
         }
-        for kind in kinds_to_meet(function).iter().filter(|kind| self.of_kind(kind) < FEWEST_OF_A_KIND) {
-            gaps.push(format!("{} is {kind} only {} times", form.name, self.of_kind(kind)));
-        }
+        gaps.extend(self.kinds.gaps(form.name, FEWEST_OF_A_KIND));
         gaps
     }
 }

@@ -3,6 +3,7 @@
 use crate::call::{Answer, Call, Function};
 use crate::calls::{bit_words, words_needed};
 use crate::draw::Dice;
+use crate::kinds::chosen;
 
 /// A start, which is also how many words stand before it. At times a whole call's words do, and seldom more than 16 bits count.
 pub fn fitting(dice: &mut Dice, needed: u64) -> u64 {
@@ -101,11 +102,6 @@ pub fn met(call: &Call, answer: Answer) -> Vec<String> {
         number if number < 8 && start > len || number > 8 && start > 0 => vec![refused(number, of_others(number))],
         _ => vec![],
     }
-}
-
-/// The kinds that hold.
-fn chosen<'a, const N: usize>(kinds: &'a [&'a str; N], holds: [bool; N]) -> impl Iterator<Item = &'a str> {
-    kinds.iter().zip(holds).filter(|(_, holds)| *holds).map(|(kind, _)| *kind)
 }
 
 /// The words that a call with a fit n and k takes.

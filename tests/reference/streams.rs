@@ -1,8 +1,9 @@
-//! The lesson program's standard streams: what it prints and what it says on standard error, where a read or a write fails and where none does.
+//! A program's standard streams: what it prints and what it says on standard error, where a read or a write fails and where none does.
 
-use crate::compare::{deliver, run_expected};
-use crate::ends::{added, Input, Sink};
+use crate::compare::{deliver, read};
+use crate::ends::{Input, Sink};
 use crate::show::{difference, excerpt};
+use crate::text::Text;
 use std::io::{Error, Read};
 use std::os::unix::process::ExitStatusExt;
 use std::process::{Child, Command, Output, Stdio};
@@ -41,19 +42,20 @@ struct Case {
     outcome: Outcome,
 }
 
-const fn orderly(name: &'static str, input: Input, bytes: usize) -> Case {
-    Case { name, input, bytes, sink: Sink::Pipe, outcome: Outcome::Orderly }
-}
-
-const fn failing_read(name: &'static str, input: Input, bytes: usize, error: i32) -> Case {
-    Case { name, input, bytes, sink: Sink::Pipe, outcome: Outcome::ReadFails(error) }
-}
-
-const fn failing_write(name: &'static str, input: Input, bytes: usize, sink: Sink, outcome: Outcome) -> Case {
+const fn into(sink: Sink, name: &'static str, input: Input, bytes: usize, outcome: Outcome) -> Case {
     Case { name, input, bytes, sink, outcome }
 }
 
-const CASES: [Case; 32] = [
+const fn orderly(name: &'static str, input: Input, bytes: usize) -> Case {
+    into(Sink::Pipe, name, input, bytes, Outcome::Orderly)
+}
+
+const fn failing_read(name: &'static str, input: Input, bytes: usize, error: i32) -> Case {
+    into(Sink::Pipe, name, input, bytes, Outcome::ReadFails(error))
+}
+
+/// Those of both programs.
+const CASES: [Case; 31] = [
     orderly("/dev/null", Input::Null, 0),
     orderly("the empty file", Input::File, 0),
     orderly("a pipe without a byte", Input::Pipe, 0),
@@ -80,12 +82,25 @@ const CASES: [Case; 32] = [
     failing_read("a silent socket", Input::SilentSocket, 0, WOULD_BLOCK),
     failing_read("a silent socket behind a sample", Input::SilentSocket, 30, WOULD_BLOCK),
     failing_read("a broken socket behind a sample", Input::BrokenSocket, 30, CONNECTION_RESET),
-    failing_write("/dev/full for the header", Input::File, 0, Sink::Full, Outcome::WriteFails(NO_SPACE)),
-    failing_write("/dev/full for a sample", Input::File, 30, Sink::Full, Outcome::WriteFails(NO_SPACE)),
-    failing_write("/dev/full, standard input closed", Input::Closed, 0, Sink::Full, Outcome::WriteFails(NO_SPACE)),
-    failing_write("standard output closed", Input::File, 30, Sink::Closed, Outcome::WriteFails(BAD_DESCRIPTOR)),
-    failing_write("a pipe with room for a part", Input::File, 60_000, Sink::Crowded, Outcome::WriteFails(WOULD_BLOCK)),
-    failing_write("a socket that nobody reads", Input::File, 30, Sink::Abandoned, Outcome::Ended(PIPE_SIGNAL)),
+    into(Sink::Full, "/dev/full for the empty file", Input::File, 0, Outcome::WriteFails(NO_SPACE)),
+    into(Sink::Full, "/dev/full for a sample", Input::File, 30, Outcome::WriteFails(NO_SPACE)),
+    into(Sink::Closed, "standard output closed", Input::File, 30, Outcome::WriteFails(BAD_DESCRIPTOR)),
+    into(Sink::Stuffed, "a pipe without room", Input::File, 30, Outcome::WriteFails(WOULD_BLOCK)),
+    into(Sink::Abandoned, "a socket that nobody reads", Input::File, 30, Outcome::Ended(PIPE_SIGNAL)),
+];
+
+/// The lesson program writes its header after a failed read too, and its text may be long.
+const OF_LESSONS: [Case; 2] = [
+    into(Sink::Full, "/dev/full, standard input closed", Input::Closed, 0, Outcome::WriteFails(NO_SPACE)),
+    into(Sink::Crowded, "a pipe with room for a part", Input::File, 60_000, Outcome::WriteFails(WOULD_BLOCK)),
+];
+
+/// The report program writes nothing after a failed read, so no write fails, and its text is always short.
+const OF_REPORTS: [Case; 4] = [
+    into(Sink::Full, "/dev/full, standard input closed", Input::Closed, 0, Outcome::ReadFails(BAD_DESCRIPTOR)),
+    into(Sink::Full, "/dev/full, a silent pipe behind a sample", Input::SilentPipe, 30, Outcome::ReadFails(WOULD_BLOCK)),
+    into(Sink::Closed, "standard output closed, standard input a directory", Input::Directory, 0, Outcome::ReadFails(IS_DIRECTORY)),
+    into(Sink::Crowded, "a pipe with room for a part of a long text", Input::File, 60_000, Outcome::Orderly),
 ];
 
 /// The output of a program that is running.
@@ -132,68 +147,70 @@ impl Case {
             scope.spawn(|| pipe.map(|pipe| deliver(pipe, file, self.input.delivery())));
             finish(child)
         });
-        output.stdout.extend(crowded.map(added).unwrap_or_default());
+        output.stdout.extend(crowded.map(|pipe| self.sink.added(pipe)).unwrap_or_default());
         output
     }
 
-    /// After a failed read the header alone, after a failed write what there was room for: of a long text a part.
-    fn printed(&self, file: &[u8], room: usize) -> Vec<u8> {
-        let text = run_expected(file).printed;
+    /// After a failed read the lesson program's header or nothing, after a failed write what there was room for: of a long text a part.
+    fn printed(&self, text: Text, file: &[u8], room: usize) -> Vec<u8> {
+        let whole = text.of(&read(file));
         match self.outcome {
-            Outcome::Orderly => text,
-            Outcome::ReadFails(_) => run_expected(&[]).printed,
-            Outcome::WriteFails(_) if self.sink == Sink::Crowded => text[..room.clamp(1, text.len() - 1)].to_vec(),
-            Outcome::WriteFails(_) | Outcome::Ended(_) => Vec::new(),
+            Outcome::Orderly => whole,
+            Outcome::ReadFails(_) if text == Text::Lesson => text.of(&read(&[])),
+            Outcome::WriteFails(_) if self.sink == Sink::Crowded => whole[..room.clamp(1, whole.len() - 1)].to_vec(),
+            Outcome::ReadFails(_) | Outcome::WriteFails(_) | Outcome::Ended(_) => Vec::new(),
         }
     }
 
-    /// One line with the system's words for what fails, or nothing.
-    fn said(&self) -> String {
+    /// One line with the program's name and the system's words for what fails, or nothing.
+    fn said(&self, text: Text) -> String {
         let (stream, error) = match self.outcome {
             Outcome::Orderly | Outcome::Ended(_) => return String::new(),
             Outcome::ReadFails(error) => ("input", error),
             Outcome::WriteFails(error) => ("output", error),
         };
-        let text = Error::from_raw_os_error(error).to_string();
-        let words = text.trim_end_matches(&format!(" (os error {error})"));
-        format!("lesson_program: standard {stream}: {words}\n")
+        let description = Error::from_raw_os_error(error).to_string();
+        let words = description.trim_end_matches(&format!(" (os error {error})"));
+        let program = if text == Text::Lesson { "lesson_program" } else { "report_program" };
+        format!("{program}: standard {stream}: {words}\n")
     }
 
     /// What is wrong with the program's run.
-    fn fault(&self, program: &str) -> Option<String> {
+    fn fault(&self, text: Text, program: &str) -> Option<String> {
         let file = self.file();
         let output = self.run(program, &file);
-        let mut text = difference(&output.stdout, &self.printed(&file, output.stdout.len())).unwrap_or_default();
+        let mut fault = difference(&output.stdout, &self.printed(text, &file, output.stdout.len())).unwrap_or_default();
         let ended = match self.outcome {
             Outcome::Ended(signal) => output.status.signal() == Some(signal),
             _ => output.status.code() == Some(0),
         };
         if !ended {
-            text += &format!("  {}\n", output.status);
+            fault += &format!("  {}\n", output.status);
         }
-        let said = self.said();
+        let said = self.said(text);
         if output.stderr != said.as_bytes() {
-            text += &format!("  standard error {}\n  should be      {said:?}\n", excerpt(&output.stderr, 0));
+            fault += &format!("  standard error {}\n  should be      {said:?}\n", excerpt(&output.stderr, 0));
         }
-        Some(text).filter(|text| !text.is_empty())
+        Some(fault).filter(|fault| !fault.is_empty())
     }
 }
 
 /// Runs the program on each case.
-pub fn is_right(program: &str) -> bool {
+pub fn is_right(text: Text, program: &str) -> bool {
     assert_eq!(SAMPLE.len(), 30, "the example of document 01");
     let (mut orderly, mut reads, mut writes, mut wrong) = (0, 0, 0, 0);
-    for case in &CASES {
+    let more = if text == Text::Lesson { &OF_LESSONS[..] } else { &OF_REPORTS };
+    for case in CASES.iter().chain(more) {
         *match case.outcome {
             Outcome::Orderly => &mut orderly,
             Outcome::ReadFails(_) => &mut reads,
             Outcome::WriteFails(_) | Outcome::Ended(_) => &mut writes,
         } += 1;
-        if let Some(text) = case.fault(program) {
+        if let Some(fault) = case.fault(text, program) {
             wrong += 1;
-            eprintln!("{}:\n{text}", case.name);
+            eprintln!("{}:\n{fault}", case.name);
         }
     }
-    println!("streams: {orderly} orderly runs, {reads} failing reads, {writes} failing writes, {wrong} wrong");
+    println!("streams of {}: {orderly} orderly runs, {reads} failing reads, {writes} failing writes, {wrong} wrong", text.name());
     wrong == 0 && orderly > 0 && reads > 0 && writes > 0
 }

@@ -1,7 +1,12 @@
-//! What the made files met: which refusals at which places, which n and k, which order of the lists.
+//! What the made files met: which refusals at which places, which n and k, which order of the lists, and what else their text is to meet.
 
-use crate::lesson::{Cut, Lesson, Record};
+use crate::kinds::{print_gaps, Kinds};
+use crate::lesson::{Cut, Lesson, Record, MOST_BYTES};
+use crate::text::Text;
 use std::collections::{BTreeMap, BTreeSet};
+
+/// A kind of text that is met less often says too little.
+const FEWEST_OF_A_KIND: usize = 5;
 
 /// A refusal's number, the record concerned and where the file is cut.
 type Place = (u64, Record, Cut);
@@ -65,30 +70,41 @@ fn all_places() -> BTreeSet<(Place, bool)> {
     both.filter(|(place, later)| place.1 != Record::File || !later).collect()
 }
 
-/// Prints what was not met. Answers how much it is.
-pub fn print_gaps(gaps: &[String]) -> usize {
-    for gap in gaps {
-        eprintln!("{gap}");
-    }
-    gaps.len()
-}
-
 /// Counts over the made files.
-#[derive(Default)]
 pub struct Tally {
+    text: Text,
     files: usize,
     complete: usize,
     samples: usize,
     x_first: usize,
     y_first: usize,
+    lengths: BTreeSet<usize>,
     pairs: BTreeSet<(u64, u64)>,
     refusals: BTreeMap<(Place, bool), usize>,
+    kinds: Kinds,
 }
 
 impl Tally {
-    /// One file more.
-    pub fn count(&mut self, lesson: &Lesson) {
+    pub fn new(text: Text) -> Tally {
+        Tally {
+            text,
+            files: 0,
+            complete: 0,
+            samples: 0,
+            x_first: 0,
+            y_first: 0,
+            lengths: BTreeSet::new(),
+            pairs: BTreeSet::new(),
+            refusals: BTreeMap::new(),
+            kinds: Kinds::new(text.to_meet()),
+        }
+    }
+
+    /// One file more, of so many bytes.
+    pub fn count(&mut self, lesson: &Lesson, bytes: usize) {
         self.files += 1;
+        self.lengths.insert(bytes);
+        self.kinds.count(&self.text.met(lesson));
         self.samples += lesson.accepted.len();
         for sample in &lesson.accepted {
             self.pairs.insert((sample.n, sample.k));
@@ -111,13 +127,17 @@ impl Tally {
 
     /// Prints the counts in a few lines, and what is missing. Answers how much that is.
     pub fn print(&self) -> usize {
-        println!("lessons: {} files made, {} complete, {} samples printed", self.files, self.complete, self.samples);
+        println!("{}: {} files made, {} complete, {} complete samples", self.text.name(), self.files, self.complete, self.samples);
         println!("  pairs of n and k {}, XB first {}, YB first {}", self.pairs.len(), self.x_first, self.y_first);
         println!("  refusals, in the first sample + in later ones:");
         let numbers: BTreeSet<u64> = PLACES.iter().map(|place| place.0).collect();
         for number in numbers {
             let places = PLACES.iter().filter(|place| place.0 == number);
             println!("  {number}: {}", places.map(|place| self.counts(*place)).collect::<Vec<_>>().join(", "));
+        }
+        let kinds: Vec<String> = self.kinds.lines().collect();
+        if !kinds.is_empty() {
+            println!("  {}", kinds.join("; "));
         }
         print_gaps(&self.gaps())
     }
@@ -134,6 +154,9 @@ impl Tally {
         if self.x_first == 0 || self.y_first == 0 {
             gaps.push("only one order of XB and YB is accepted".to_string());
         }
+        let lengths = [MOST_BYTES, MOST_BYTES + 1].into_iter().filter(|length| !self.lengths.contains(length));
+        gaps.extend(lengths.map(|length| format!("no file has {length} bytes")));
+        gaps.extend(self.kinds.gaps("a file", FEWEST_OF_A_KIND));
         gaps
     }
 }
