@@ -40,6 +40,9 @@ struct sample_case {
     list shares;
 };
 
+/* A call that writes a text of a lesson file. */
+typedef tp_answer text_call(const uint8_t *file, size_t file_len, uint16_t *words, size_t words_len, uint8_t *text, size_t text_len);
+
 /* Where a call starts in the word list, and how many other words stand before those of the case, whose answer does not count them. */
 typedef struct {
     size_t others, start;

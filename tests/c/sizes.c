@@ -89,14 +89,14 @@ static void limits(void)
 }
 
 /* The text of a file of so many zero bytes ends in this line. With one byte, or one word, less of room the call is refused. */
-static void text_of_zeros(size_t len, const char *line)
+static void text_of_zeros(text_call *call, size_t len, size_t room, const char *line)
 {
-    size_t room = TP_TEXT_ROOM(len), line_len = strlen(line);
+    size_t line_len = strlen(line);
     uint8_t *file = calloc(len + 1, 1), *text = malloc(room);
     uint16_t words[TP_MAX_WORDS];
-    tp_answer answer = tp_lesson_text(file, len, words, TP_MAX_WORDS, text, room);
-    tp_answer less_room = tp_lesson_text(file, len, words, TP_MAX_WORDS, text, room - 1);
-    tp_answer fewer_words = tp_lesson_text(file, len, words, TP_MAX_WORDS - 1, text, room);
+    tp_answer answer = call(file, len, words, TP_MAX_WORDS, text, room);
+    tp_answer less_room = call(file, len, words, TP_MAX_WORDS, text, room - 1);
+    tp_answer fewer_words = call(file, len, words, TP_MAX_WORDS - 1, text, room);
     CHECK(answer.code == TP_ACCEPTED && equal(text + answer.value - line_len, line, line_len));
     CHECK(less_room.code == TP_OUTPUT_ROOM);
     CHECK(fewer_words.code == TP_WORD_COUNT);
@@ -104,14 +104,20 @@ static void text_of_zeros(size_t len, const char *line)
     free(text);
 }
 
+static void texts_of_zeros(size_t len, const char *line, const char *report_line)
+{
+    text_of_zeros(tp_lesson_text, len, TP_TEXT_ROOM(len), line);
+    text_of_zeros(tp_report_text, len, TP_REPORT_ROOM, report_line);
+}
+
 void size_cases(void)
 {
     begin_case(__FILE__, __LINE__);
     all_sizes();
     limits();
-    text_of_zeros(0, "shares\n");
-    text_of_zeros(1, "refused 19 0\n");
-    text_of_zeros(2, "refused 18 0\n");
-    text_of_zeros(TP_MAX_FILE, "refused 18 0\n");
-    text_of_zeros(TP_MAX_FILE + 1, "refused 21 0\n");
+    texts_of_zeros(0, "shares\n", "0 0 0\n");
+    texts_of_zeros(1, "refused 19 0\n", "refused 19 0\n");
+    texts_of_zeros(2, "refused 18 0\n", "refused 18 0\n");
+    texts_of_zeros(TP_MAX_FILE, "refused 18 0\n", "refused 18 0\n");
+    texts_of_zeros(TP_MAX_FILE + 1, "refused 21 0\n", "refused 21 0\n");
 }
