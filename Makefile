@@ -1,4 +1,4 @@
-.PHONY: help lesson exam lib install uninstall bench test clean always
+.PHONY: help lesson report exam lib install uninstall bench test clean always
 .NOTPARALLEL:
 .DELETE_ON_ERROR:
 unexport CDPATH
@@ -11,6 +11,7 @@ export PREFIX DESTDIR
 help:
 	@echo 'make lesson     the main job on an example: proves the lesson program and gives it a lesson file'
 	@echo 'make test       all tests, which is what the gate runs'
+	@echo 'make report     the class report of an example'
 	@echo 'make exam       the exam sheet: every reference value, as the library gives it'
 	@echo 'make lib        the library for C and Rust: $(library) and $(header)'
 	@echo 'make install    installs these and a pkg-config file below PREFIX, here $(PREFIX); DESTDIR goes before it'
@@ -21,6 +22,10 @@ help:
 lesson:
 	@tools/prove check lesson_program
 	@target/bin/lesson_program <examples/document01.lesson
+
+report:
+	@tools/prove check report_program
+	@target/bin/report_program <examples/ml_kem_k3.lesson
 
 exam:
 	@tools/prove check exam_program
@@ -58,13 +63,14 @@ bench: lib
 test:
 	@tools/prove fmt --check
 	@tools/setup
-	@tools/prove check lesson_program exam_program
+	@tools/prove check lesson_program report_program exam_program
 	@$(MAKE) --silent --no-print-directory lib
 	tests/docs
 	tests/setup
 	tests/compile_refusals
 	tests/exam
 	tests/lessons
+	tests/reports
 	tests/lesson_tool
 	tests/archive
 	tests/frames
