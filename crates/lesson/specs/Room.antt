@@ -73,8 +73,8 @@ module _ (file : List ℕ) (bytes : (i : ℕ) → at file i < 256) (limit : leng
       (λ p code position o e number m. omega arith)
       (λ p code position o h e number m. omega arith)
       (λ p o h g behind number m.
-        let d : p + 30 ≤ layoutAt file p .next .at = sample-length p o h g in
-        rw length-append (omega (arith, sample-line-length p o h g number m, behind (suc number) (omega arith), layout-end file p h)))
+      let d : p + 30 ≤ layoutAt file p .next .at = sample-length p o h g in
+      rw length-append (omega (arith, sample-line-length p o h g number m, behind (suc number) (omega arith), layout-end file p h)))
 
 -- ---- the whole text
 

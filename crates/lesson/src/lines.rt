@@ -18,7 +18,13 @@ fn write_parameters(text: &mut [u8], at: usize, parameters: Parameters, used: us
     text::write_field(text, c, used)
 }
 
-pub fn write_line(text: &mut [u8], at: usize, number: usize, sampled: Sampled, shares: &[Word]) -> usize
+pub fn write_line(
+    text: &mut [u8],
+    at: usize,
+    number: usize,
+    sampled: Sampled,
+    shares: &[Word],
+) -> usize
     requires { ⌜ at + length (fieldsLine number (sampled .parameters .n) (sampled .parameters .k) (sampled .parameters .q) (sampled .used) (sampled .value) (now shares)) ≤ length (now text) ⌝ }
     ensures { λ r. ⌜ Wrote (now (text .entry)) at (fieldsLine number (sampled .parameters .n) (sampled .parameters .k) (sampled .parameters .q) (sampled .used) (sampled .value) (now (shares .entry))) (now (text .exit)) r ⌝ }
 {

@@ -105,8 +105,11 @@ samples-room samples f h =
     let m : length zs ≤ 60000 = omega (arith, length-map samples valueOf) in
     let v = fit-values samples f in
     rw length-append
-    (omega (arith, lines-length (not (agree (lengthsOf samples))) (firstOf (lengthsOf samples)) (fit-bits samples f) (λ e. occurrences (sampleAt e) zs) (λ e. omega (arith, occurrences-le (sampleAt e) zs)) 33 (omega arith),
-      last-length (sumℤ zs) (squares zs) (length samples) (omega (arith, sum-le zs v)) (omega (arith, squares-le zs v)) (omega arith)))
+    (omega (
+      arith,
+      lines-length (not (agree (lengthsOf samples))) (firstOf (lengthsOf samples)) (fit-bits samples f) (λ e. occurrences (sampleAt e) zs) (λ e. omega (arith, occurrences-le (sampleAt e) zs)) 33 (omega arith),
+      last-length (sumℤ zs) (squares zs) (length samples) (omega (arith, sum-le zs v)) (omega (arith, squares-le zs v)) (omega arith),
+    ))
 
 -- ---- the whole report
 

@@ -29,12 +29,7 @@ pub struct Reading {
 }
 
 // Nothing is written before the whole file has been judged.
-fn read_samples(
-    file: &[u8],
-    words: &mut [Word],
-    out: &mut [Word],
-    work: &mut [Word],
-) -> Reading
+fn read_samples(file: &[u8], words: &mut [Word], out: &mut [Word], work: &mut [Word]) -> Reading
     requires { ⌜ SampleRoom (length (now words)) (length (now out)) (length (now work)) ⌝ }
     ensures { λ r. ⌜ (sampleBuffers (now (words .exit)) (now (out .exit)) (now (work .exit)) ≡ afterLesson (lesson (now (file .entry))) (sampleBuffers (now (words .entry)) (now (out .entry)) (now (work .entry)))) × (r .tally ≡ tallied (lesson (now (file .entry)) .samples)) × (checkedReading (r .ended) ≡ endingVerdict (lesson (now (file .entry)) .ending)) ⌝ }
 {

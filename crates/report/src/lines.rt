@@ -69,13 +69,7 @@ fn write_counted(
 }
 
 // From the lowest sample to the highest.
-fn write_lines(
-    text: &mut [u8],
-    counts: &[u32; 33],
-    row: &[u64; 35],
-    mixed: bool,
-    k: usize,
-) -> usize
+fn write_lines(text: &mut [u8], counts: &[u32; 33], row: &[u64; 35], mixed: bool, k: usize) -> usize
     requires { ⌜ (k ≤ 16) × Below (2 ^ 31) 33 (at (now counts)) × (now row ≡ pairRow k) × (length (linesText mixed k (linesOf 33 sampleAt (at (now counts)))) ≤ length (now text)) ⌝ }
     ensures { λ r. ⌜ Wrote (now (text .entry)) 0 (linesText mixed k (linesOf 33 sampleAt (at (now (counts .entry))))) (now (text .exit)) r ⌝ }
 {
@@ -113,5 +107,11 @@ pub fn write_tally(text: &mut [u8], tally: Tally) -> usize
     let k = tally.k;
     let row = pairs::count_pairs(k);
     let end = write_lines(text, &counts, &row, tally.mixed, k);
-    write_last(text, end, tally.sum, tally.squares as usize, tally.total as usize)
+    write_last(
+        text,
+        end,
+        tally.sum,
+        tally.squares as usize,
+        tally.total as usize,
+    )
 }

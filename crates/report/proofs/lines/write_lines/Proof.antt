@@ -48,9 +48,12 @@ write-counted-requires c κs =
     let l = c .before .before .before .before .loop in
     let t = c .before .before .before .loop-test .taken in
     let n = at (s .args .counts .now) in
-    let e : l .e + 1 + (32 - l .e) ≡ 33 = omega arith in
-    (t, s .pre .0, ap (λ (r : List ℕ). at r (1 + l .e)) (s .pre .2) ∙ row-beside (s .args .k) (l .e) t,
-      omega (arith, s .pre .3, l .inv .1 .1, l .inv .2, ap (λ m. length (firstLines (s .args .mixed) (s .args .k) n m)) e, lines-within (s .args .mixed) (s .args .k) n (32 - l .e) (l .e + 1), ap length (lines-next (s .args .mixed) (s .args .k) n (l .e)) ∙ length-append (firstLines (s .args .mixed) (s .args .k) n (l .e)) (linesText (s .args .mixed) (s .args .k) (lineOf (sampleAt (l .e)) (n (l .e))))))
+    let e : l .e + 1 + (32 - l .e) ≡ 33 = omega arith in (
+      t,
+      s .pre .0,
+      ap (λ (r : List ℕ). at r (1 + l .e)) (s .pre .2) ∙ row-beside (s .args .k) (l .e) t,
+      omega (arith, s .pre .3, l .inv .1 .1, l .inv .2, ap (λ m. length (firstLines (s .args .mixed) (s .args .k) n m)) e, lines-within (s .args .mixed) (s .args .k) n (32 - l .e) (l .e + 1), ap length (lines-next (s .args .mixed) (s .args .k) n (l .e)) ∙ length-append (firstLines (s .args .mixed) (s .args .k) n (l .e)) (linesText (s .args .mixed) (s .args .k) (lineOf (sampleAt (l .e)) (n (l .e))))),
+    )
 
 add-e : tie.Need-add-e Inv-loop μ-loop
 add-e c = search needs
