@@ -16,7 +16,7 @@ use Rattle.sampler.specs.Sampler.{sampleChecks, sampled}
 use Rattle.polynomial.specs.Polynomial.{polynomialChecks, sampledPolynomial}
 use Rattle.lesson_samples.specs.Call.{callChecks, pieceWritten}
 use Rattle.lesson.specs.Text.{lessonText, textRoom}
-use Rattle.report.specs.Report.{reportText}
+use Rattle.report.specs.Report.{reportText, reportRoom}
 use Rattle.capi.specs.FileText.{lessonTextWritten, reportTextWritten}
 
 abbrev isNumbered : ℕ → ℕ → Bool
@@ -71,4 +71,4 @@ module _ (code position : ℕ) where
   lesson-text-code file words text = text-code (textRoom (length file)) (lessonText file) file words text
 
   pub report-text-code : (file words text : List ℕ) → reportTextWritten file words text .answer ≡ refused code position → 0 < code
-  report-text-code file words text = text-code 1200 (reportText file) file words text
+  report-text-code file words text = text-code reportRoom (reportText file) file words text

@@ -19,7 +19,7 @@ use Rattle.lesson_samples.specs.Lesson.{sharesOf, valueOf, Lesson, lesson, less
 use Rattle.lesson_samples.specs.SampleLaws.{sample-pair, sample-words}
 use Rattle.lesson_samples.specs.LessonLaws.{lesson-holds}
 use Rattle.lesson_samples.specs.RefusalLaws.{ending-short}
-use Rattle.lesson_samples.specs.Walk.{looked-at, too-long}
+use Rattle.lesson_samples.specs.Walk.{whole-holds}
 use Rattle.lesson.specs.Text.{header, sampleLine, sampleLines, lessonLines, textOf, lessonText, textRoom}
 use Rattle.lesson.specs.TextLaws.{fields-line-length}
 
@@ -78,15 +78,19 @@ module _ (file : List ℕ) (bytes : (i : ℕ) → at file i < 256) (limit : leng
 
 -- ---- the whole text
 
+-- of a file that is too long there are none
+samples-length : (file : List ℕ) → ((i : ℕ) → at file i < 256) → length (sampleLines 1 (lesson file .samples)) + 45 ≤ textRoom (length file)
+unfolding sampleLines
+samples-length file bytes =
+    whole-holds file (λ l. length (sampleLines 1 (l .samples)) + 45 ≤ textRoom (length file))
+    (λ h. rw (le-leb (length file) 60000 h) (omega (arith, lines-fit file bytes h 0 1 (omega arith))))
+    (λ long. rw (lt-leb (length file) 60000 long) (omega arith))
+
 pub text-length : (file : List ℕ) → ((i : ℕ) → at file i < 256) → length (lessonText file) ≤ textRoom (length file)
-unfolding textOf lessonLines sampleLines
-text-length file bytes = rw length-append (go (decLe (length file) 60000))
-  where
-    go : Dec (length file ≤ 60000) → length header + length (lessonLines (lesson file)) ≤ textRoom (length file)
-    go (yes h) = rw (le-leb (length file) 60000 h, length-append (sampleLines 1 (lesson file .samples)), looked-at file h) (omega (arith, lines-fit file bytes h 0 1 (omega arith), rw (looked-at file h) at (ending-short file bytes)))
-    go (no h) =
-        let long : 60000 < length file = omega arith in
-        rw (lt-leb (length file) 60000 long, too-long file long) (omega (arith, rw (too-long file long) at (ending-short file bytes)))
+unfolding textOf lessonLines
+text-length file bytes =
+    rw (length-append header, length-append (sampleLines 1 (lesson file .samples)))
+    (omega (arith, samples-length file bytes, ending-short file bytes))
 
 pub room-le : (bytes : ℕ) → textRoom bytes ≤ 180045
 room-le bytes = go (decLe bytes 60000)

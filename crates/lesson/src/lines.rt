@@ -30,7 +30,7 @@ pub fn write_line(
 {
     let a = text::write_decimal(text, at, number);
     let b = write_parameters(text, a, sampled.parameters, sampled.used);
-    let c = text::write_signed(text, b, sampled.value);
+    let c = text::write_signed_field(text, b, sampled.value);
     let d = text::write_words(text, c, shares);
     text::write_bytes(text, d, b"\n")
 }

@@ -10,7 +10,7 @@ use lib.Seq.{take-all, length-take-le}
 use Rattle.lesson_samples.specs.Lesson.{Lesson, lesson}
 use Rattle.lesson_samples.specs.Walk.{too-long}
 
-lesson-of-front : (bytes : ℕ) (input : List ℕ) → 60001 ≤ bytes → lesson (take bytes input) ≡ lesson input
+pub lesson-of-front : (bytes : ℕ) (input : List ℕ) → 60001 ≤ bytes → lesson (take bytes input) ≡ lesson input
 lesson-of-front bytes input h = go (decLe (length input) bytes)
   where
     go : Dec (length input ≤ bytes) → lesson (take bytes input) ≡ lesson input

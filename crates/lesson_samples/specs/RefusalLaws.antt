@@ -1,33 +1,33 @@
 -- The pieces of a refusal's line, and how long it is for every file.
-use mathlib.Core.Path.{_≡_, refl}
+use mathlib.Core.Path.{_≡_}
 use mathlib.Core.Bool.{Bool, true, _&&_}
-use mathlib.Core.List.{List, _++_, append-assoc, append-nil}
+use mathlib.Core.List.{List, _++_}
 use Prim.Native.Nat.{ℕ, _+_, _≤_, _<_}
-use native.Mathlib.Decide.{decLe}
 use native.Mathlib.Omega.{arith}
 use borrow.Author.Tests.{lt-ltb, ltb-true}
 use lib.Dec.{ltb}
-use lib.ListN.{length, length-append}
+use lib.ListN.{length}
 use Rattle.buffers.specs.Positions.{at}
-use Rattle.checks.specs.Checks.{Check, refused, verdict, checked}
+use Rattle.checks.specs.Checks.{Check, refused, verdict}
 use Rattle.checks.specs.Laws.{Hold, All, refusal-passes, and-true}
 use Rattle.text.specs.Ascii.{ascii}
-use Rattle.text.specs.Text.{decimal, spaced}
-use Rattle.text.specs.Laws.{decimal-length}
+use Rattle.text.specs.Text.{decimal}
+use Rattle.text.specs.Laws.{decimal-length, line-three, length-line-three}
 use Rattle.lesson_file.specs.Layouts.{whole-sample}
-use Rattle.lesson_file.specs.Records.{layoutRead, listSize, layoutAt, layoutChecks}
+use Rattle.lesson_file.specs.Records.{listSize, layoutAt, layoutChecks}
 use Rattle.lesson_samples.specs.Lesson.{fitChecks, lesson, endingVerdict}
 use Rattle.lesson_samples.specs.LessonLaws.{lesson-holds}
-use Rattle.lesson_samples.specs.Walk.{looked-at, too-long}
+use Rattle.lesson_samples.specs.Walk.{whole-holds}
 use Rattle.lesson_samples.specs.RefusalLine.{refusalLine, endingLine}
 
 module _ (code position : ℕ) where
   pub refusal-line : refusalLine code position ≡ ascii "refused" ++ ((ascii " " ++ decimal code) ++ ((ascii " " ++ decimal position) ++ ascii "\n"))
-  unfolding refusalLine spaced
-  refusal-line = rw (append-nil (decimal position), append-assoc (decimal code) (ascii " " ++ decimal position) (ascii "\n"))
+  unfolding refusalLine
+  refusal-line = line-three (ascii "refused") (decimal code) (decimal position)
 
   pub length-refusal-line : length (refusalLine code position) ≡ 10 + length (decimal code) + length (decimal position)
-  length-refusal-line = rw refusal-line (simp length-append (omega arith))
+  unfolding refusalLine
+  length-refusal-line = length-line-three (ascii "refused") (decimal code) (decimal position)
 
   refusal-line-length : code < 100 → position < 100000 → length (refusalLine code position) ≤ 17
   refusal-line-length h l = omega (arith, length-refusal-line, decimal-length code 2 h (omega arith), decimal-length position 5 l (omega arith))
@@ -58,13 +58,9 @@ module _ (file : List ℕ) (bytes : (i : ℕ) → at file i < 256) (limit : leng
 
 -- the line of how a file ends
 pub ending-short : (file : List ℕ) → ((i : ℕ) → at file i < 256) → length (endingLine (endingVerdict (lesson file .ending))) ≤ 17
-ending-short file bytes = go (decLe (length file) 60000)
-  where
-    go : Dec (length file ≤ 60000) → length (endingLine (endingVerdict (lesson file .ending))) ≤ 17
-    go (yes h) =
-        rw (looked-at file h)
-        (lesson-holds file (λ p l. length (endingLine (endingVerdict (l .ending))) ≤ 17) (λ p. omega arith) (λ p code position o e. checks-short _ code position _ (layout-short file bytes h p o) e)
-        (λ p code position o g e. checks-short _ code position _ (fit-short file bytes h p g) e) (λ p o g f behind. behind) 0)
-    go (no h) =
-        let long : 60000 < length file = omega arith in
-        rw (too-long file long) (refusal-line-length 21 0 (omega arith) (omega arith))
+ending-short file bytes =
+    whole-holds file (λ l. length (endingLine (endingVerdict (l .ending))) ≤ 17)
+    (λ h.
+    lesson-holds file (λ p l. length (endingLine (endingVerdict (l .ending))) ≤ 17) (λ p. omega arith) (λ p code position o e. checks-short _ code position _ (layout-short file bytes h p o) e)
+    (λ p code position o g e. checks-short _ code position _ (fit-short file bytes h p g) e) (λ p o g f behind. behind) 0)
+    (λ long. refusal-line-length 21 0 (omega arith) (omega arith))

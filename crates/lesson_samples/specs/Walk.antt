@@ -2,7 +2,7 @@
 use mathlib.Core.Path.{_≡_, refl, sym, ap, _∙_}
 use mathlib.Core.Bool.{cond}
 use mathlib.Core.List.{List, [], _∷_, _++_, append-assoc, append-nil}
-use Prim.Native.Nat.{ℕ, _+_, _≤_, _<_}
+use Prim.Native.Nat.{ℕ, _≤_, _<_}
 use native.Mathlib.Decide.{decLe}
 use native.Mathlib.Omega.{arith}
 use borrow.Author.Tests.{le-leb, lt-leb}
@@ -40,16 +40,26 @@ module _ (file : List ℕ) where
 
   -- ---- the whole file
 
-  pub looked-at : length file ≤ 60000 → lesson file ≡ lessonFrom file 0
+  looked-at : length file ≤ 60000 → lesson file ≡ lessonFrom file 0
   looked-at h = sym rest-whole ∙ rest-short 0 h
 
   pub too-long : 60000 < length file → lesson file ≡ ends (unread 21 0)
   too-long h = sym rest-whole ∙ rest-long 0 h
 
+  -- what holds of a lesson that is looked at, and of a file that is too long
+  pub whole-holds : (P : Lesson → Type 0) → (length file ≤ 60000 → P (lessonFrom file 0)) → (60000 < length file → P (ends (unread 21 0))) → P (lesson file)
+  whole-holds P looked long = go (decLe (length file) 60000)
+    where
+      go : Dec (length file ≤ 60000) → P (lesson file)
+      go (yes h) = rw (looked-at h) (looked h)
+      go (no h) =
+          let l : 60000 < length file = omega arith in
+          rw (too-long l) (long l)
+
 -- `done` are the samples before position p, made in buffers that were `first` before them and are `now` behind them
 pub record Walk (file : List ℕ) (first now : SampleBuffers) (done : List Sample) (p : ℕ) : Type 0 where
   pub counted : length done ≤ p
-  pub short : 60000 < length file → p ≡ 0
+  pub unwalked : 60000 < length file → p ≡ 0
   pub samples : done ++ restFrom file p .samples ≡ lesson file .samples
   pub ending : restFrom file p .ending ≡ lesson file .ending
   pub buffers : afterLesson (restFrom file p) now ≡ afterLesson (lesson file) first
@@ -62,7 +72,7 @@ pub record Walked (file : List ℕ) (first now : SampleBuffers) (done : List Sam
 
 module _ (file : List ℕ) (first : SampleBuffers) where
   pub begun : Walk file first first [] 0
-  begun = record { counted = omega arith; short = λ h. refl; samples = ap (λ l. l .samples) (rest-whole file); ending = ap (λ l. l .ending) (rest-whole file); buffers = ap (λ l. afterLesson l first) (rest-whole file) }
+  begun = record { counted = omega arith; unwalked = λ h. refl; samples = ap (λ l. l .samples) (rest-whole file); ending = ap (λ l. l .ending) (rest-whole file); buffers = ap (λ l. afterLesson l first) (rest-whole file) }
 
   module _ (now : SampleBuffers) (done : List Sample) (p : ℕ) (w : Walk file first now done p) where
     finished : (after : SampleBuffers) (v : Verdict Unit) → (restFrom file p .samples ≡ []) × (endingVerdict (restFrom file p .ending) ≡ v) × (after ≡ afterLesson (restFrom file p) now) → Walked file first after done v
@@ -75,7 +85,7 @@ module _ (file : List ℕ) (first : SampleBuffers) where
       where
         go : Dec (length file ≤ 60000) → Walked file first now done (accepted tt)
         go (yes l) = finished now (accepted tt) (rw (rest-short file p l, lesson-ends file p h) (refl, refl, refl))
-        go (no l) = absurd (omega (arith, w .short (omega arith)))
+        go (no l) = absurd (omega (arith, w .unwalked (omega arith)))
 
     module _ (o : p < length file) (after : SampleBuffers) (a : SampleAnswer) (e : sampleOutcome a after ≡ nextSample file now p) where
       -- it is refused here
@@ -108,7 +118,7 @@ module _ (file : List ℕ) (first : SampleBuffers) where
             let d = ap (λ m. m .next .at) (next-sampled file p now after a e m i .0) in
             record {
               counted = omega (arith, w .counted, layout-longer file p, length-append done (s ∷ []));
-              short = λ long. absurd (omega (arith, next-limit file p now after a e m i));
+              unwalked = λ long. absurd (omega (arith, next-limit file p now after a e m i));
               samples = append-assoc done (s ∷ []) _ ∙ ap (λ l. done ++ l) (sym (rest-sample .0)) ∙ w .samples;
               ending = sym (rest-sample .1) ∙ w .ending;
               buffers = sym (rest-sample .2) ∙ w .buffers;

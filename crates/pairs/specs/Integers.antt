@@ -5,7 +5,7 @@ use Prim.Native.Nat.{ℕ, suc, _+_, _-_, _*_, _≤_, _<_}
 use native.Mathlib.Omega.{arith}
 use borrow.Author.Tests.{eqb-true, eq-eqb}
 use lib.Dec.{eqb}
-use lib.IntN.{ℤ, pos, negsuc, natAbs, sucℤ, predℤ, negℤ, suc-pred, pred-suc, _+ℤ_, _-ℤ_, sucℤ-+ℤ, +ℤ-predℤ, negℤ-sucℤ, -ℤ-+ℤ-cancel}
+use lib.IntN.{ℤ, pos, negsuc, natAbs, sucℤ, predℤ, suc-pred, pred-suc, _+ℤ_, _-ℤ_, -ℤ-+ℤ-cancel}
 use Rattle.residue.specs.Integers.{minus-above, minus-below}
 use Rattle.pairs.specs.Pairs.{sameℤ}
 
@@ -43,35 +43,27 @@ same-pred a b = same-iff (predℤ a) b a (sucℤ b) (λ e. sym (suc-pred a) ∙ 
 pub same-far : (a b : ℤ) → natAbs a < natAbs b → sameℤ a b ≡ false
 same-far a b h = agreed _ _ (λ e. absurd (omega (arith, ap natAbs (same-equal a b e)))) (λ e. absurd (false≢true e))
 
--- ---- differences
-
-pub minus-suc-left : (a b : ℕ) → pos (suc a) -ℤ pos b ≡ sucℤ (pos a -ℤ pos b)
-minus-suc-left a b = sucℤ-+ℤ (pos a) (negℤ (pos b))
-
-pub minus-suc-right : (a b : ℕ) → pos a -ℤ pos (suc b) ≡ predℤ (pos a -ℤ pos b)
-minus-suc-right a b = ap (λ (z : ℤ). pos a +ℤ z) (negℤ-sucℤ (pos b)) ∙ +ℤ-predℤ (pos a) (negℤ (pos b))
-
 -- ---- positions
 
 -- the position of an integer among -k, -k + 1, ..
-abbrev pub place : ℕ → ℤ → ℕ
-place k (pos a) = k + a
-place k (negsuc a) = k - suc a
+abbrev pub position : ℕ → ℤ → ℕ
+position k (pos a) = k + a
+position k (negsuc a) = k - suc a
 
-pub place-lt : (k : ℕ) (z : ℤ) → natAbs z ≤ k → place k z < 2 * k + 1
-place-lt k (pos a) h = omega arith
-place-lt k (negsuc a) h = omega arith
+pub position-lt : (k : ℕ) (z : ℤ) → natAbs z ≤ k → position k z < 2 * k + 1
+position-lt k (pos a) h = omega arith
+position-lt k (negsuc a) h = omega arith
 
-pub place-minus : (k : ℕ) (z : ℤ) → natAbs z ≤ k → pos (place k z) -ℤ pos k ≡ z
-place-minus k (pos a) h = minus-above (k + a) k (omega arith) ∙ ap pos (omega arith)
-place-minus k (negsuc a) h = minus-below (k - suc a) k (omega arith) ∙ ap negsuc (omega arith)
+pub position-minus : (k : ℕ) (z : ℤ) → natAbs z ≤ k → pos (position k z) -ℤ pos k ≡ z
+position-minus k (pos a) h = minus-above (k + a) k (omega arith) ∙ ap pos (omega arith)
+position-minus k (negsuc a) h = minus-below (k - suc a) k (omega arith) ∙ ap negsuc (omega arith)
 
 minus-cancel : (a b k : ℕ) → pos a -ℤ pos k ≡ pos b -ℤ pos k → a ≡ b
 minus-cancel a b k e = ap natAbs (sym (-ℤ-+ℤ-cancel (pos a) (pos k)) ∙ ap (λ (z : ℤ). z +ℤ pos k) e ∙ -ℤ-+ℤ-cancel (pos b) (pos k))
 
-pub place-same : (k : ℕ) (z : ℤ) → natAbs z ≤ k → (i : ℕ) → sameℤ z (pos i -ℤ pos k) ≡ eqb (place k z) i
-place-same k z h i =
-    let v = place-minus k z h in
+pub position-same : (k : ℕ) (z : ℤ) → natAbs z ≤ k → (i : ℕ) → sameℤ z (pos i -ℤ pos k) ≡ eqb (position k z) i
+position-same k z h i =
+    let v = position-minus k z h in
     agreed _ _
-    (λ e. eq-eqb (place k z) i (minus-cancel (place k z) i k (v ∙ same-equal z (pos i -ℤ pos k) e)))
-    (λ e. equal-same z (pos i -ℤ pos k) (sym v ∙ ap (λ (p : ℕ). pos p -ℤ pos k) (eqb-true (place k z) i e)))
+    (λ e. eq-eqb (position k z) i (minus-cancel (position k z) i k (v ∙ same-equal z (pos i -ℤ pos k) e)))
+    (λ e. equal-same z (pos i -ℤ pos k) (sym v ∙ ap (λ (p : ℕ). pos p -ℤ pos k) (eqb-true (position k z) i e)))

@@ -8,25 +8,25 @@ use lib.Count.{ones, ones-cat, ones-ones}
 use lib.Dec.{eqb}
 use lib.IntN.{ℤ, pos, natAbs, sucℤ, predℤ, pred-suc, _-ℤ_}
 use Rattle.residue.specs.Residue.{total}
-use Rattle.residue.specs.Integers.{minus-le}
+use Rattle.residue.specs.Integers.{minus-le, minus-suc-left, minus-suc-right}
 use Rattle.buffers.specs.Positions.{table}
 use Rattle.binomial.specs.Signed.{bitSum, weight, differenceOfWeights}
 use Rattle.binomial.specs.Weight.{ones-weight, weight-le}
-use Rattle.pairs.specs.Pairs.{sameℤ, one, sumTo, pairs}
-use Rattle.pairs.specs.Sums.{one-le, sum-same, sum-const, sum-zero, sum-le, sum-plus, sum-split, sum-swap, sum-pick}
-use Rattle.pairs.specs.Integers.{same-suc, same-pred, same-far, minus-suc-left, minus-suc-right, place, place-lt, place-same}
+use Rattle.pairs.specs.Pairs.{sameℤ, indicator, sumTo, pairs}
+use Rattle.pairs.specs.Sums.{indicator-le, sum-same, sum-const, sum-zero, sum-le, sum-plus, sum-split, sum-swap, sum-pick}
+use Rattle.pairs.specs.Integers.{same-suc, same-pred, same-far, position, position-lt, position-same}
 
 -- whether two weights have the difference d
 test : ℤ → ℕ → ℕ → ℕ
-test d v w = one (sameℤ (pos v -ℤ pos w) d)
+test d v w = indicator (sameℤ (pos v -ℤ pos w) d)
 
 test-left : (d : ℤ) (v w : ℕ) → test d (suc v) w ≡ test (predℤ d) v w
 unfolding test
-test-left d v w = rw (minus-suc-left v w) (ap one (same-suc (pos v -ℤ pos w) d))
+test-left d v w = rw (minus-suc-left v w) (ap indicator (same-suc (pos v -ℤ pos w) d))
 
 test-right : (d : ℤ) (v w : ℕ) → test d v (suc w) ≡ test (sucℤ d) v w
 unfolding test
-test-right d v w = rw (minus-suc-right v w) (ap one (same-pred (pos v -ℤ pos w) d))
+test-right d v w = rw (minus-suc-right v w) (ap indicator (same-pred (pos v -ℤ pos w) d))
 
 -- ---- one bit more
 
@@ -61,7 +61,7 @@ module _ (k : ℕ) (h : k < 16) where
       ∙ omega (arith, longer-left d, longer-left (sucℤ d), ap (pairs k) (pred-suc d))
 
 -- no bits: one pair, of equal weights
-pub pairs-none : (d : ℤ) → pairs 0 d ≡ one (sameℤ (pos 0) d)
+pub pairs-none : (d : ℤ) → pairs 0 d ≡ indicator (sameℤ (pos 0) d)
 unfolding pairs total table bitSum
 pairs-none d = omega arith
 
@@ -75,19 +75,19 @@ pub pairs-le : (k : ℕ) (d : ℤ) → pairs k d ≤ 4 ^ k
 unfolding pairs
 pairs-le k d =
     rw (← square-four k)
-    (sum-le (2 ^ k) (2 ^ k) _ (λ x l. omega (arith, sum-le (2 ^ k) 1 (λ y. one (sameℤ (differenceOfWeights x y) d)) (λ y m. one-le (sameℤ (differenceOfWeights x y) d)))))
+    (sum-le (2 ^ k) (2 ^ k) _ (λ x l. omega (arith, sum-le (2 ^ k) 1 (λ y. indicator (sameℤ (differenceOfWeights x y) d)) (λ y m. indicator-le (sameℤ (differenceOfWeights x y) d)))))
 
 module _ (k : ℕ) (l : k ≤ 16) where
   difference-le : (x y : ℕ) → x < 2 ^ k → y < 2 ^ k → natAbs (differenceOfWeights x y) ≤ k
   difference-le x y h m = minus-le k (weight x) (weight y) (weight-le k x l h) (weight-le k y l m)
 
   -- a pair has one of the differences from -k to k
-  pair-once : (x y : ℕ) → x < 2 ^ k → y < 2 ^ k → sumTo (2 * k + 1) (λ i. one (sameℤ (differenceOfWeights x y) (pos i -ℤ pos k))) ≡ 1
+  pair-once : (x y : ℕ) → x < 2 ^ k → y < 2 ^ k → sumTo (2 * k + 1) (λ i. indicator (sameℤ (differenceOfWeights x y) (pos i -ℤ pos k))) ≡ 1
   pair-once x y h m =
       let z : ℤ = differenceOfWeights x y in
       let n = difference-le x y h m in
-      sum-same (2 * k + 1) _ (λ i. one (eqb (place k z) i) * 1) (λ i o. ap one (place-same k z n i) ∙ omega arith)
-      ∙ sum-pick (2 * k + 1) (place k z) (λ i. 1) (place-lt k z n)
+      sum-same (2 * k + 1) _ (λ i. indicator (eqb (position k z) i) * 1) (λ i o. ap indicator (position-same k z n i) ∙ omega arith)
+      ∙ sum-pick (2 * k + 1) (position k z) (λ i. 1) (position-lt k z n)
 
   pub pairs-all : sumTo (2 * k + 1) (λ i. pairs k (pos i -ℤ pos k)) ≡ 4 ^ k
   unfolding pairs
@@ -99,7 +99,7 @@ module _ (k : ℕ) (l : k ≤ 16) where
   -- none has a greater one
   pub pairs-outside : (d : ℤ) → k < natAbs d → pairs k d ≡ 0
   unfolding pairs
-  pairs-outside d g = sum-zero (2 ^ k) _ (λ x h. sum-zero (2 ^ k) _ (λ y m. ap one (same-far (differenceOfWeights x y) d (omega (arith, difference-le x y h m)))))
+  pairs-outside d g = sum-zero (2 ^ k) _ (λ x h. sum-zero (2 ^ k) _ (λ y m. ap indicator (same-far (differenceOfWeights x y) d (omega (arith, difference-le x y h m)))))
 
   pub power-lt : 4 ^ k < 10 ^ 10
   power-lt = omega (arith, N.pow-le-pow-right {n = 4} (omega arith) l)

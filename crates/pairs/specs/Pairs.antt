@@ -16,16 +16,16 @@ sameℤ (negsuc a) (pos b) = false
 sameℤ (negsuc a) (negsuc b) = eqb a b
 
 -- 1 where a test holds
-abbrev pub one : Bool → ℕ
-one b = cond b 1 0
+abbrev pub indicator : Bool → ℕ
+indicator b = cond b 1 0
 
 -- f 0 + .. + f (n - 1)
 abbrev pub sumTo : ℕ → (ℕ → ℕ) → ℕ
 sumTo n f = total (table n f)
 
--- how many pairs of k-bit strings x, y have the difference d
+-- how many pairs of k-bit strings x, y have the difference d, for k up to 16
 unfoldable pub pairs : ℕ → ℤ → ℕ
-pairs k d = sumTo (2 ^ k) (λ x. sumTo (2 ^ k) (λ y. one (sameℤ (differenceOfWeights x y) d)))
+pairs k d = sumTo (2 ^ k) (λ x. sumTo (2 ^ k) (λ y. indicator (sameℤ (differenceOfWeights x y) d)))
 
 -- for each difference from -17 to 17
 unfoldable pub pairRow : ℕ → List ℕ

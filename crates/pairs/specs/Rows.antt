@@ -5,10 +5,10 @@ use Prim.Native.Nat.{ℕ, suc, _+_, _*_, _^_, _≤_, _<_}
 use native.Mathlib.Omega.{arith}
 use lib.IntN.{ℤ, pos, sucℤ, predℤ, suc-pred, pred-suc, _-ℤ_}
 use lib.ListN.{set, replicate}
+use Rattle.residue.specs.Integers.{minus-suc-left, minus-suc-right}
 use Rattle.buffers.specs.Positions.{at, table, Same, Below}
 use Rattle.buffers.specs.PositionLaws.{table-at, table-same, table-last}
-use Rattle.pairs.specs.Pairs.{sameℤ, one, pairs, pairRow}
-use Rattle.pairs.specs.Integers.{minus-suc-left, minus-suc-right}
+use Rattle.pairs.specs.Pairs.{sameℤ, indicator, pairs, pairRow}
 use Rattle.pairs.specs.PairLaws.{pairs-none, pairs-next, pairs-le, pairs-outside, power-lt}
 
 -- the entry of the next row at position j + 1
@@ -28,7 +28,7 @@ ends n f g a b e =
 -- no bits: one pair, whose difference is 0
 pub row-none : set (replicate 35 0) 17 1 ≡ pairRow 0
 unfolding pairRow table
-row-none = sym (table-same 35 _ (λ j. one (sameℤ (pos 0) (pos j -ℤ pos 17))) (λ j l. pairs-none (pos j -ℤ pos 17)))
+row-none = sym (table-same 35 _ (λ j. indicator (sameℤ (pos 0) (pos j -ℤ pos 17))) (λ j l. pairs-none (pos j -ℤ pos 17)))
 
 module _ (k : ℕ) where
   abbrev entry : ℕ → ℕ

@@ -8,11 +8,11 @@ use lib.Dec.{eqb, eqb·zero-suc, eqb·suc-zero, eqb·suc-suc}
 use Rattle.residue.specs.Residue.{total}
 use Rattle.buffers.specs.Positions.{table, after, Same}
 use Rattle.buffers.specs.PositionLaws.{after-zero, table-same}
-use Rattle.pairs.specs.Pairs.{one, sumTo}
+use Rattle.pairs.specs.Pairs.{indicator, sumTo}
 
-pub one-le : (b : Bool) → one b ≤ 1
-one-le true = omega arith
-one-le false = omega arith
+pub indicator-le : (b : Bool) → indicator b ≤ 1
+indicator-le true = omega arith
+indicator-le false = omega arith
 
 pub sum-same : (n : ℕ) (f g : ℕ → ℕ) → Same n f g → sumTo n f ≡ sumTo n g
 sum-same n f g h = ap total (table-same n f g h)
@@ -48,7 +48,7 @@ sum-swap zero m f = sym (sum-zero m _ (λ j l. refl))
 sum-swap (suc n) m f = rw (sum-swap n m (λ i. f (suc i))) (sym (sum-plus m (f 0) (λ j. sumTo n (λ i. f (suc i) j))))
 
 -- the one term that a test picks
-pub sum-pick : (n p : ℕ) (g : ℕ → ℕ) → p < n → sumTo n (λ i. one (eqb p i) * g i) ≡ g p
+pub sum-pick : (n p : ℕ) (g : ℕ → ℕ) → p < n → sumTo n (λ i. indicator (eqb p i) * g i) ≡ g p
 unfolding total table
 sum-pick zero p g h = absurd (N.not-suc-le-zero h)
 sum-pick (suc n) zero g h = simp (eqb·zero-suc, N.zero-mul) (omega (arith, sum-const n 0))

@@ -6,7 +6,7 @@ use native.Mathlib.Omega.{arith}
 use lib.IntN.{natAbs}
 use lib.ListN.{length, length-append, length-map}
 use Rattle.tally.specs.Tally.{tallyOf}
-use Rattle.tally.specs.Bounds.{Room, tally-room}
+use Rattle.tally.specs.Bounds.{Room}
 use Rattle.tally.specs.OneMore.{withOne, tally-one}
 use Rattle.tally.specs.declared.Tally.{Tally}
 use Rattle.checks.specs.Checks.{Verdict}
@@ -17,7 +17,7 @@ use Rattle.lesson_samples.specs.Walk as walk
 use Rattle.lesson_samples.specs.Walk.{Walk, Walked}
 use Rattle.report.specs.Report.{valuesOf, lengthsOf}
 use Rattle.report.specs.Counted.{tallied}
-use Rattle.report.specs.Room.{Fit, fit-front, fit-values, samples-fit}
+use Rattle.report.specs.Room.{Fit, fit-front, samples-fit, tallied-room}
 
 pub record Progress (file : List ℕ) (first now : SampleBuffers) (t : Tally) (p : ℕ) : Type 0 where
   pub done : List Sample
@@ -38,11 +38,11 @@ module _ (file : List ℕ) (first : SampleBuffers) where
       fit : Fit (g .done ++ (s ∷ []))
       fit = fit-front (g .done ++ (s ∷ [])) (walk.restFrom file r .samples) (rw (w .samples) (samples-fit file .0))
 
-      few : length (valuesOf (g .done)) ≤ 60000
-      few = omega (arith, length-map (g .done) valueOf, length-append (g .done) (s ∷ []), length-append (g .done ++ (s ∷ [])) (walk.restFrom file r .samples), ap length (w .samples), samples-fit file .1)
+      few : length (g .done) ≤ 60000
+      few = omega (arith, length-append (g .done) (s ∷ []), length-append (g .done ++ (s ∷ [])) (walk.restFrom file r .samples), ap length (w .samples), samples-fit file .1)
 
       pub count-room : Room t
-      count-room = rw (g .counted) (tally-room (lengthsOf (g .done)) (valuesOf (g .done)) (fit-values (g .done) (fit-front (g .done) (s ∷ []) fit)) few)
+      count-room = rw (g .counted) (tallied-room (g .done) (fit-front (g .done) (s ∷ []) fit) few)
 
       pub advanced : (u : Tally) → u ≡ withOne t (s .k) (valueOf s) → natAbs (valueOf s) ≤ 16 → Progress file first after u r
       advanced u e h =

@@ -22,7 +22,7 @@ lengthsOf samples = map (λ s. s .k) samples
 
 -- the two exact numbers, which a file with mixed k omits
 abbrev pub exactFields : Bool → ℕ → ℕ → List (List ℕ)
-exactFields mixed pairs power = cond mixed [] (decimal pairs ∷ decimal power ∷ [])
+exactFields mixed ways power = cond mixed [] (decimal ways ∷ decimal power ∷ [])
 
 -- the sample, how many times it came, the number of pairs of k-bit strings with that difference, and 4 to the power k
 unfoldable pub lineText : Bool → ℕ → Line → List ℕ
@@ -42,17 +42,22 @@ samplesText samples =
     linesText (not (agree (lengthsOf samples))) (firstOf (lengthsOf samples)) (lines (valuesOf samples))
     ++ lastLine (sumℤ (valuesOf samples)) (squares (valuesOf samples)) (length samples)
 
-abbrev pub endedText : List Sample → Verdict Unit → List ℕ
-endedText samples (accepted a) = samplesText samples
-endedText samples (refused code position) = refusalLine code position
+-- at a refusal only the refusal's line
+abbrev pub endedText : List ℕ → Verdict Unit → List ℕ
+endedText complete (accepted a) = complete
+endedText complete (refused code position) = refusalLine code position
 
--- The whole output: at a refusal only the refusal's line.
+-- The whole output.
 unfoldable pub textOf : Lesson → List ℕ
-textOf l = endedText (l .samples) (endingVerdict (l .ending))
+textOf l = endedText (samplesText (l .samples)) (endingVerdict (l .ending))
 
 abbrev pub reportText : List ℕ → List ℕ
 reportText file = textOf (lesson file)
 
--- The call that puts the report in front of a text buffer, of which it asks for 1,200 bytes.
+-- Room for the report of every file: 33 lines of at most 35 bytes, and a last one of at most 45.
+abbrev pub reportRoom : ℕ
+reportRoom = 1200
+
+-- The call that puts the report in front of a text buffer.
 abbrev pub reportWritten : List ℕ → List ℕ → List ℕ → List ℕ → List ℕ → Outcome ℕ Buffers
-reportWritten file words out work text = pieceWritten 1200 (reportText file) file words out work text
+reportWritten file words out work text = pieceWritten reportRoom (reportText file) file words out work text

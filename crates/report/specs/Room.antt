@@ -1,8 +1,8 @@
--- What holds of the samples of every file, and that the report of every file fits into 1,200 bytes.
+-- What holds of the samples of every file and of their tally, and that there is room for the report of every file.
 use mathlib.Core.Path.{_≡_}
 use mathlib.Core.Bool.{Bool, true, false, not}
 use mathlib.Core.List.{List, [], _∷_, _++_}
-use Prim.Native.Nat.{ℕ, zero, suc, _+_, _*_, _-_, _^_, _≤_, _<_}
+use Prim.Native.Nat.{ℕ, zero, suc, _*_, _-_, _^_, _≤_, _<_}
 use native.Mathlib.Decide.{decLe, ℕ-discrete}
 use native.Mathlib.Numerals.{add-one}
 use native.Mathlib.Omega.{arith}
@@ -13,20 +13,21 @@ use Rattle.buffers.specs.Positions.{at}
 use Rattle.checks.specs.Checks.{Verdict, accepted, refused}
 use Rattle.pairs.specs.Pairs.{pairs}
 use Rattle.pairs.specs.PairLaws.{pairs-le, power-lt}
-use Rattle.tally.specs.Tally.{Samples, occurrences, lineOf, sampleAt, sumℤ, squares, firstOf, agree}
-use Rattle.tally.specs.Bounds.{occurrences-le, sum-le, squares-le}
+use Rattle.tally.specs.Tally.{EachSmall, occurrences, lineOf, sampleAt, sumℤ, squares, firstOf, agree}
+use Rattle.tally.specs.Bounds.{Room, occurrences-le, sum-le, squares-le, tally-room}
 use Rattle.text.specs.Text.{decimal, signed, spaced}
-use Rattle.text.specs.Laws.{decimal-length, signed-length}
+use Rattle.text.specs.Laws.{decimal-length, signed-length, length-line}
 use Rattle.lesson_file.specs.Layouts.{whole-sample, layout-end, layout-longer}
 use Rattle.lesson_file.specs.Records.{Sample, layoutAt}
-use Rattle.lesson_samples.specs.Lesson.{valueOf, Lesson, lesson, lessonFrom, endingVerdict}
+use Rattle.lesson_samples.specs.Lesson.{valueOf, lesson, lessonFrom, endingVerdict}
 use Rattle.lesson_samples.specs.SampleLaws.{sample-pair, value-small}
 use Rattle.lesson_samples.specs.LessonLaws.{lesson-holds}
 use Rattle.lesson_samples.specs.RefusalLine.{endingLine}
 use Rattle.lesson_samples.specs.RefusalLaws.{ending-short}
-use Rattle.lesson_samples.specs.Walk.{looked-at, too-long}
-use Rattle.report.specs.Report.{valuesOf, lengthsOf, exactFields, linesText, lastLine, samplesText, endedText, textOf, reportText}
-use Rattle.report.specs.LineLaws.{length-line, length-exact, length-last, line-absent, line-present, firstLines, lines-none, lines-next}
+use Rattle.lesson_samples.specs.Walk.{whole-holds}
+use Rattle.report.specs.Report.{valuesOf, lengthsOf, exactFields, linesText, lastLine, samplesText, endedText, textOf, reportText, reportRoom}
+use Rattle.report.specs.Counted.{tallied}
+use Rattle.report.specs.LineLaws.{length-exact, length-last, line-absent, line-present, firstLines, lines-none, lines-next}
 
 -- ---- the samples of a file
 
@@ -39,7 +40,7 @@ pub fit-front : (a b : List Sample) → Fit (a ++ b) → Fit a
 fit-front [] b h = tt
 fit-front (s ∷ a) b h = (h .0, h .1, fit-front a b (h .2))
 
-pub fit-values : (samples : List Sample) → Fit samples → Samples (valuesOf samples)
+pub fit-values : (samples : List Sample) → Fit samples → EachSmall (valuesOf samples)
 fit-values [] h = tt
 fit-values (s ∷ samples) h = (h .0, fit-values samples (h .2))
 
@@ -57,20 +58,19 @@ module _ (file : List ℕ) where
       (λ p o h g behind. let w = whole-sample file p h in ((value-small file (layoutAt file p) w g, sample-pair file (layoutAt file p) w g .sixteen, behind .0), omega (arith, behind .1, layout-longer file p, layout-end file p h)))
 
   pub samples-fit : Fit (lesson file .samples) × (length (lesson file .samples) ≤ 60000)
-  samples-fit = go (decLe (length file) 60000)
-    where
-      go : Dec (length file ≤ 60000) → Fit (lesson file .samples) × (length (lesson file .samples) ≤ 60000)
-      go (yes h) = rw (looked-at file h) (samples-from 0 .0, omega (arith, samples-from 0 .1))
-      go (no h) =
-          let long : 60000 < length file = omega arith in
-          rw (too-long file long) (tt, omega arith)
+  samples-fit =
+      whole-holds file (λ l. Fit (l .samples) × (length (l .samples) ≤ 60000)) (λ h. (samples-from 0 .0, omega (arith, samples-from 0 .1))) (λ long. (tt, omega arith))
+
+-- their tally does not overflow
+pub tallied-room : (samples : List Sample) → Fit samples → length samples ≤ 60000 → Room (tallied samples)
+tallied-room samples f h = tally-room (lengthsOf samples) (valuesOf samples) (fit-values samples f) (omega (arith, length-map samples valueOf))
 
 -- ---- how long the lines are
 
-exact-length : (mixed : Bool) (count power : ℕ) → count < 10 ^ 10 → power < 10 ^ 10 → length (spaced (exactFields mixed count power)) ≤ 22
+exact-length : (mixed : Bool) (ways power : ℕ) → ways < 10 ^ 10 → power < 10 ^ 10 → length (spaced (exactFields mixed ways power)) ≤ 22
 unfolding spaced
-exact-length true count power h l = omega arith
-exact-length false count power h l = omega (arith, length-exact count power, decimal-length count 10 h (omega arith), decimal-length power 10 l (omega arith))
+exact-length true ways power h l = omega arith
+exact-length false ways power h l = omega (arith, length-exact ways power, decimal-length ways 10 h (omega arith), decimal-length power 10 l (omega arith))
 
 sample-small : (e : ℕ) → e < 33 → natAbs (sampleAt e) ≤ 16
 sample-small e h = go (decLe 16 e)
@@ -98,7 +98,7 @@ module _ (mixed : Bool) (k : ℕ) (h : k ≤ 16) where
 last-length : (sum : ℤ) (squares total : ℕ) → natAbs sum < 10 ^ 6 → squares < 10 ^ 8 → total < 10 ^ 5 → length (lastLine sum squares total) ≤ 45
 last-length sum squares total h l m = omega (arith, length-last sum squares total, signed-length sum 6 h (omega arith), decimal-length squares 8 l (omega arith), decimal-length total 5 m (omega arith))
 
-samples-room : (samples : List Sample) → Fit samples → length samples ≤ 60000 → length (samplesText samples) ≤ 1200
+samples-room : (samples : List Sample) → Fit samples → length samples ≤ 60000 → length (samplesText samples) ≤ reportRoom
 unfolding samplesText
 samples-room samples f h =
     let zs = valuesOf samples in
@@ -113,10 +113,10 @@ samples-room samples f h =
 
 -- ---- the whole report
 
-pub report-length : (file : List ℕ) → ((i : ℕ) → at file i < 256) → length (reportText file) ≤ 1200
+pub report-length : (file : List ℕ) → ((i : ℕ) → at file i < 256) → length (reportText file) ≤ reportRoom
 unfolding textOf
 report-length file bytes = go (endingVerdict (lesson file .ending)) (ending-short file bytes)
   where
-    go : (v : Verdict Unit) → length (endingLine v) ≤ 17 → length (endedText (lesson file .samples) v) ≤ 1200
+    go : (v : Verdict Unit) → length (endingLine v) ≤ 17 → length (endedText (samplesText (lesson file .samples)) v) ≤ reportRoom
     go (accepted a) h = samples-room (lesson file .samples) (samples-fit file .0) (samples-fit file .1)
     go (refused code position) h = omega arith

@@ -16,19 +16,19 @@ ghost use Rattle.text.specs.Text.{Wrote};
 ghost use Rattle.lesson_samples.specs.Lesson.{lesson, endingVerdict};
 ghost use Rattle.lesson_samples.specs.Call.{sampleBuffers, afterLesson, withText};
 ghost use Rattle.lesson_samples.specs.Steps.{SampleRoom};
-ghost use Rattle.report.specs.Report.{reportText, reportWritten};
+ghost use Rattle.report.specs.Report.{reportText, reportRoom, reportWritten};
 ghost use Rattle.report.specs.Counted.{tallied, readingText};
 
 // The room that suffices for the report of every file.
 const REPORT_ROOM: usize = 1200;
 
 // The samples of a file, counted, and whether and why it is refused.
-pub struct Reading {
-    pub tally: Tally,
-    pub ended: Checked,
+struct Reading {
+    tally: Tally,
+    ended: Checked,
 }
 
-// Nothing is written before the whole file has been judged.
+// Counts the samples of the file, up to its end or the first refusal. Nothing is written before.
 fn read_samples(file: &[u8], words: &mut [Word], out: &mut [Word], work: &mut [Word]) -> Reading
     requires { ⌜ SampleRoom (length (now words)) (length (now out)) (length (now work)) ⌝ }
     ensures { λ r. ⌜ (sampleBuffers (now (words .exit)) (now (out .exit)) (now (work .exit)) ≡ afterLesson (lesson (now (file .entry))) (sampleBuffers (now (words .entry)) (now (out .entry)) (now (work .entry)))) × (r .tally ≡ tallied (lesson (now (file .entry)) .samples)) × (checkedReading (r .ended) ≡ endingVerdict (lesson (now (file .entry)) .ending)) ⌝ }
@@ -76,7 +76,7 @@ fn write_report(
     work: &mut [Word],
     text: &mut [u8],
 ) -> usize
-    requires { ⌜ SampleRoom (length (now words)) (length (now out)) (length (now work)) × (1200 ≤ length (now text)) ⌝ }
+    requires { ⌜ SampleRoom (length (now words)) (length (now out)) (length (now work)) × (reportRoom ≤ length (now text)) ⌝ }
     ensures { λ r. ⌜ (sampleBuffers (now (words .exit)) (now (out .exit)) (now (work .exit)) ≡ afterLesson (lesson (now (file .entry))) (sampleBuffers (now (words .entry)) (now (out .entry)) (now (work .entry)))) × Wrote (now (text .entry)) 0 (reportText (now (file .entry))) (now (text .exit)) r ⌝ }
 {
     let reading = read_samples(file, words, out, work);
@@ -85,7 +85,7 @@ fn write_report(
 
 // Writes the report of a lesson file in front of `text`, and answers its length; what lies behind it keeps its content. The words of each RW
 // fill the word buffer from the front, and each sample's shares the output.
-// Refuses 8 (fewer than 1,792 words); 10 (fewer than 8 output places, or fewer than 1,200 text bytes); 11 (fewer than 256 work places). What is
+// Refuses 8 (fewer than 1,792 words); 10 (fewer than 8 output positions, or fewer than 1,200 text bytes); 11 (fewer than 256 work positions). What is
 // wrong with the file is said in the text.
 pub fn write_text(
     file: &[u8],

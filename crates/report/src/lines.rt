@@ -1,4 +1,5 @@
-// The lines of the report. Each function writes from a position on and answers the position behind what it wrote.
+// The lines of the report. A function that writes answers the position behind what it wrote, and begins at the position that it is given, or in
+// front.
 use tally::Tally;
 ghost use mathlib.Core.Path.{_≡_};
 ghost use mathlib.Core.List.{_∷_};
@@ -12,14 +13,14 @@ ghost use Rattle.report.specs.Report.{exactFields, linesText, lastLine};
 ghost use Rattle.report.specs.Counted.{tallyText};
 
 // The two exact numbers of a line, which a file with mixed k omits.
-fn write_exact(text: &mut [u8], at: usize, mixed: bool, k: usize, count: usize) -> usize
-    requires { ⌜ (k ≤ 16) × (at + length (spaced (exactFields mixed count (4 ^ k))) ≤ length (now text)) ⌝ }
-    ensures { λ r. ⌜ Wrote (now (text .entry)) at (spaced (exactFields mixed count (4 ^ k))) (now (text .exit)) r ⌝ }
+fn write_exact(text: &mut [u8], at: usize, mixed: bool, k: usize, ways: usize) -> usize
+    requires { ⌜ (k ≤ 16) × (at + length (spaced (exactFields mixed ways (4 ^ k))) ≤ length (now text)) ⌝ }
+    ensures { λ r. ⌜ Wrote (now (text .entry)) at (spaced (exactFields mixed ways (4 ^ k))) (now (text .exit)) r ⌝ }
 {
     if mixed {
         return at;
     }
-    let next = text::write_field(text, at, count);
+    let next = text::write_field(text, at, ways);
     text::write_field(text, next, pairs::power_of_four(k))
 }
 
@@ -31,14 +32,14 @@ fn write_line(
     times: usize,
     mixed: bool,
     k: usize,
-    count: usize,
+    ways: usize,
 ) -> usize
-    requires { ⌜ (k ≤ 16) × (at + length (line (signed sample) (decimal times ∷ exactFields mixed count (4 ^ k))) ≤ length (now text)) ⌝ }
-    ensures { λ r. ⌜ Wrote (now (text .entry)) at (line (signed sample) (decimal times ∷ exactFields mixed count (4 ^ k))) (now (text .exit)) r ⌝ }
+    requires { ⌜ (k ≤ 16) × (at + length (line (signed sample) (decimal times ∷ exactFields mixed ways (4 ^ k))) ≤ length (now text)) ⌝ }
+    ensures { λ r. ⌜ Wrote (now (text .entry)) at (line (signed sample) (decimal times ∷ exactFields mixed ways (4 ^ k))) (now (text .exit)) r ⌝ }
 {
-    let a = text::write_integer(text, at, sample);
+    let a = text::write_signed(text, at, sample);
     let b = text::write_field(text, a, times);
-    let c = write_exact(text, b, mixed, k, count);
+    let c = write_exact(text, b, mixed, k, ways);
     text::write_bytes(text, c, b"\n")
 }
 
@@ -57,15 +58,15 @@ fn write_counted(
     times: usize,
     mixed: bool,
     k: usize,
-    count: usize,
+    ways: usize,
 ) -> usize
-    requires { ⌜ (e < 33) × (k ≤ 16) × (count ≡ pairs k (sampleAt e)) × (at + length (linesText mixed k (lineOf (sampleAt e) times)) ≤ length (now text)) ⌝ }
+    requires { ⌜ (e < 33) × (k ≤ 16) × (ways ≡ pairs k (sampleAt e)) × (at + length (linesText mixed k (lineOf (sampleAt e) times)) ≤ length (now text)) ⌝ }
     ensures { λ r. ⌜ Wrote (now (text .entry)) at (linesText mixed k (lineOf (sampleAt e) times)) (now (text .exit)) r ⌝ }
 {
     if times == 0 {
         return at;
     }
-    write_line(text, at, sample_at(e), times, mixed, k, count)
+    write_line(text, at, sample_at(e), times, mixed, k, ways)
 }
 
 // From the lowest sample to the highest.
@@ -92,7 +93,7 @@ fn write_last(text: &mut [u8], at: usize, sum: i32, squares: usize, total: usize
     requires { ⌜ at + length (lastLine sum squares total) ≤ length (now text) ⌝ }
     ensures { λ r. ⌜ Wrote (now (text .entry)) at (lastLine sum squares total) (now (text .exit)) r ⌝ }
 {
-    let a = text::write_integer(text, at, sum);
+    let a = text::write_signed(text, at, sum);
     let b = text::write_field(text, a, squares);
     let c = text::write_field(text, b, total);
     text::write_bytes(text, c, b"\n")

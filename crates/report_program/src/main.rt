@@ -5,14 +5,14 @@ use residue::Word;
 ghost use mathlib.Core.Path.{_≡_};
 ghost use mathlib.Core.List.{List};
 ghost use Prim.Native.Nat.{ℕ, _≤_};
-ghost use lib.ListN.{length, take, replicate};
+ghost use lib.ListN.{length, take};
 ghost use Rattle.lesson_samples.specs.Input.{Read};
-ghost use Rattle.report.specs.Report.{reportText};
+ghost use Rattle.report.specs.Report.{reportText, reportRoom};
 
 // Puts the report of the whole input in front of `text`, and answers its length. The library refuses no file: there is room for the report of
 // each.
 fn make_text(buffer: &[u8], count: usize, words: &mut [Word], text: &mut [u8]) -> usize
-    requires { ⌜ (60001 ≤ length (now buffer)) × (count ≤ length (now buffer)) × (now words ≡ replicate 1792 0) × (1200 ≤ length (now text)) ⌝ }
+    requires { ⌜ (60001 ≤ length (now buffer)) × (count ≤ length (now buffer)) × (1792 ≤ length (now words)) × (reportRoom ≤ length (now text)) ⌝ }
     ensures { λ r. ⌜ ((input : List ℕ) → Read input (now (buffer .entry)) count → take r (now (text .exit)) ≡ reportText input) × (r ≤ length (now (text .exit))) ⌝ }
 {
     let mut out: [Word; 8] = [0; 8];

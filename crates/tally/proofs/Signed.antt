@@ -6,7 +6,7 @@ use lib.Signed.{mag}
 use mir.Syntax.{w32}
 use mir.Val.{SFits}
 use borrow.Author.Needs.{sfits-of}
-use Rattle.tally.specs.Integers.{natAbs-plus}
+use Rattle.residue.specs.Integers.{natAbs-plus}
 
 mag-le : (z : ℤ) → mag z ≤ natAbs z
 mag-le (pos n) = omega arith

@@ -6,25 +6,25 @@ use native.Mathlib.Omega.{arith}
 use lib.IntN.{ℤ, natAbs}
 use lib.ListN.{length}
 use Rattle.residue.specs.Residue.{total}
+use Rattle.residue.specs.Integers.{natAbs-plus}
 use Rattle.buffers.specs.Positions.{at, Below}
 use Rattle.buffers.specs.PositionLaws.{table-at}
 use Rattle.pairs.specs.Pairs.{sameℤ}
-use Rattle.pairs.specs.Sums.{one-le}
+use Rattle.pairs.specs.Sums.{indicator-le}
 use Rattle.tally.specs.declared.Tally.{Tally}
-use Rattle.tally.specs.Tally.{Samples, occurrences, sampleAt, countAt, sumℤ, squares, tallyOf}
-use Rattle.tally.specs.Integers.{natAbs-plus}
+use Rattle.tally.specs.Tally.{EachSmall, occurrences, sampleAt, countAt, sumℤ, squares, tallyOf}
 
 pub occurrences-le : (d : ℤ) (zs : List ℤ) → occurrences d zs ≤ length zs
 unfolding occurrences total
 occurrences-le d [] = omega arith
-occurrences-le d (z ∷ zs) = omega (arith, one-le (sameℤ z d), occurrences-le d zs)
+occurrences-le d (z ∷ zs) = omega (arith, indicator-le (sameℤ z d), occurrences-le d zs)
 
-pub sum-le : (zs : List ℤ) → Samples zs → natAbs (sumℤ zs) ≤ 16 * length zs
+pub sum-le : (zs : List ℤ) → EachSmall zs → natAbs (sumℤ zs) ≤ 16 * length zs
 unfolding sumℤ
 sum-le [] h = omega arith
 sum-le (z ∷ zs) h = omega (arith, natAbs-plus z (sumℤ zs), h .0, sum-le zs (h .1))
 
-pub squares-le : (zs : List ℤ) → Samples zs → squares zs ≤ 256 * length zs
+pub squares-le : (zs : List ℤ) → EachSmall zs → squares zs ≤ 256 * length zs
 unfolding total
 squares-le [] h = omega arith
 squares-le (z ∷ zs) h = omega (arith, N.mul-le-mul (h .0) (h .0), squares-le zs (h .1))
@@ -37,8 +37,7 @@ pub record Room (t : Tally) : Type 0 where
   pub totalled : t .total < 2 ^ 31
 
 -- as there is behind the samples of a lesson file
-pub tally-room : (ks : List ℕ) (zs : List ℤ) → Samples zs → length zs ≤ 60000 → Room (tallyOf ks zs)
-unfolding tallyOf
+pub tally-room : (ks : List ℕ) (zs : List ℤ) → EachSmall zs → length zs ≤ 60000 → Room (tallyOf ks zs)
 tally-room ks zs h l =
     record {
       counted = λ e m. rw (table-at 33 (countAt zs) e m) (omega (arith, occurrences-le (sampleAt e) zs));

@@ -1,5 +1,4 @@
 pub mod Tally
-pub mod Integers
 pub mod LineLaws
 pub mod Bounds
 pub mod OneMore

@@ -11,16 +11,16 @@ use lib.ListN.{length, set, length-append, length-set}
 use Rattle.residue.specs.Residue.{total}
 use Rattle.buffers.specs.Positions.{at, table}
 use Rattle.buffers.specs.PositionLaws.{length-table, table-at, table-same, table-list, set-agrees}
-use Rattle.pairs.specs.Pairs.{sameℤ, one}
-use Rattle.pairs.specs.Integers.{place, place-lt, place-same}
+use Rattle.pairs.specs.Pairs.{sameℤ, indicator}
+use Rattle.pairs.specs.Integers.{position, position-lt, position-same}
 use Rattle.tally.specs.declared.Tally.{Tally}
-use Rattle.tally.specs.Tally.{Samples, occurrences, sampleAt, countAt, sumℤ, square, firstOf, allAre, agree, tallyOf}
+use Rattle.tally.specs.Tally.{occurrences, sampleAt, countAt, sumℤ, square, firstOf, allAre, agree, tallyOf}
 
 abbrev pub withOne : Tally → ℕ → ℤ → Tally
 withOne t k z =
     let first : ℕ = cond (eqb (t .total) 0) k (t .k) in
     record {
-      counts = set (t .counts) (place 16 z) (at (t .counts) (place 16 z) + 1);
+      counts = set (t .counts) (position 16 z) (at (t .counts) (position 16 z) + 1);
       sum = t .sum +ℤ z;
       squares = t .squares + square z;
       total = t .total + 1;
@@ -44,19 +44,19 @@ module _ (zs : List ℤ) (z : ℤ) (h : natAbs z ≤ 16) where
   abbrev after : ℕ → ℕ
   after = countAt (zs ++ (z ∷ []))
 
-  count-one : (e : ℕ) → after e ≡ countAt zs e + one (eqb (place 16 z) e)
+  count-one : (e : ℕ) → after e ≡ countAt zs e + indicator (eqb (position 16 z) e)
   unfolding occurrences
-  count-one e = total-one (λ y. one (sameℤ y (sampleAt e))) zs z ∙ ap (λ (b : Bool). countAt zs e + one b) (place-same 16 z h e)
+  count-one e = total-one (λ y. indicator (sameℤ y (sampleAt e))) zs z ∙ ap (λ (b : Bool). countAt zs e + indicator b) (position-same 16 z h e)
 
-  counts-one : set (table 33 (countAt zs)) (place 16 z) (at (table 33 (countAt zs)) (place 16 z) + 1) ≡ table 33 after
+  counts-one : set (table 33 (countAt zs)) (position 16 z) (at (table 33 (countAt zs)) (position 16 z) + 1) ≡ table 33 after
   counts-one =
-      let p : ℕ = place 16 z in
+      let p : ℕ = position 16 z in
       let t : List ℕ = table 33 (countAt zs) in
-      let l : p < 33 = place-lt 16 z h in
+      let l : p < 33 = position-lt 16 z h in
       let m = length-table 33 (countAt zs) in
-      let same : at t p + 1 ≡ after p = rw (table-at 33 (countAt zs) p l) (omega (arith, count-one p, ap one (eq-eqb p p refl))) in
+      let same : at t p + 1 ≡ after p = rw (table-at 33 (countAt zs) p l) (omega (arith, count-one p, ap indicator (eq-eqb p p refl))) in
       sym (table-list 33 _ (length-set t p _ ∙ m))
-      ∙ table-same 33 _ after (λ e i. set-agrees t p _ after (omega arith) same e (λ n. table-at 33 (countAt zs) e i ∙ omega (arith, count-one e, ap one (ne-eqb p e (λ d. n (sym d))))))
+      ∙ table-same 33 _ after (λ e i. set-agrees t p _ after (omega arith) same e (λ n. table-at 33 (countAt zs) e i ∙ omega (arith, count-one e, ap indicator (ne-eqb p e (λ d. n (sym d))))))
 
 -- ---- the k of the samples
 
@@ -79,9 +79,4 @@ mixed-one (j ∷ ks) k = ap not (all-one j (j ∷ ks) k) ∙ not-and (allAre j (
 -- ---- all of it
 
 pub tally-one : (ks : List ℕ) (zs : List ℤ) (k : ℕ) (z : ℤ) → natAbs z ≤ 16 → length ks ≡ length zs → withOne (tallyOf ks zs) k z ≡ tallyOf (ks ++ (k ∷ [])) (zs ++ (z ∷ []))
-unfolding tallyOf
 tally-one ks zs k z h e = rw (counts-one zs z h, sum-one zs z, total-one square zs z, length-append zs (z ∷ []), mixed-one ks k, first-one ks k, e)
-
-pub samples-one : (zs : List ℤ) (z : ℤ) → Samples zs → natAbs z ≤ 16 → Samples (zs ++ (z ∷ []))
-samples-one [] z h l = (l, tt)
-samples-one (a ∷ zs) z h l = (h .0, samples-one zs z (h .1) l)

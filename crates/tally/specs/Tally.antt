@@ -7,19 +7,19 @@ use lib.IntN.{ℤ, pos, natAbs, _+ℤ_, _-ℤ_}
 use lib.ListN.{length}
 use Rattle.residue.specs.Residue.{total}
 use Rattle.buffers.specs.Positions.{table}
-use Rattle.pairs.specs.Pairs.{sameℤ, one}
+use Rattle.pairs.specs.Pairs.{sameℤ, indicator}
 use Rattle.tally.specs.declared.Tally.{Tally}
 
 -- each sample is from -16 to 16
-abbrev pub Samples : List ℤ → Type 0
-Samples [] = Unit
-Samples (z ∷ zs) = (natAbs z ≤ 16) × Samples zs
+abbrev pub EachSmall : List ℤ → Type 0
+EachSmall [] = Unit
+EachSmall (z ∷ zs) = (natAbs z ≤ 16) × EachSmall zs
 
 -- ---- the lines
 
 -- how many of the samples are d
 unfoldable pub occurrences : ℤ → List ℤ → ℕ
-occurrences d zs = total (map (λ z. one (sameℤ z d)) zs)
+occurrences d zs = total (map (λ z. indicator (sameℤ z d)) zs)
 
 pub record Line : Type 0 where
   pub sample : ℤ
@@ -73,7 +73,7 @@ agree ks = allAre (firstOf ks) ks
 
 -- ---- all of it, of samples zs with their ks
 
-unfoldable pub tallyOf : List ℕ → List ℤ → Tally
+abbrev pub tallyOf : List ℕ → List ℤ → Tally
 tallyOf ks zs =
     record {
       counts = table 33 (countAt zs);

@@ -7,7 +7,7 @@ ghost use lib.Dec.{eqb};
 ghost use lib.IntN.{natAbs, _+ℤ_};
 ghost use lib.ListN.{set};
 ghost use Rattle.buffers.specs.Positions.{at, Below};
-ghost use Rattle.pairs.specs.Integers.{place};
+ghost use Rattle.pairs.specs.Integers.{position};
 ghost use Rattle.tally.specs.Tally.{square, tallyOf};
 ghost use Rattle.tally.specs.Bounds.{Room};
 ghost use Rattle.tally.specs.OneMore.{withOne};
@@ -38,9 +38,9 @@ pub fn empty() -> Tally
 }
 
 // The position of a sample in the counts.
-fn place(sample: i32) -> usize
+fn position(sample: i32) -> usize
     requires { ⌜ natAbs sample ≤ 16 ⌝ }
-    ensures { λ r. ⌜ r ≡ place 16 sample ⌝ }
+    ensures { λ r. ⌜ r ≡ position 16 sample ⌝ }
 {
     let magnitude = residue::magnitude(sample) as usize;
     if sample < 0 {
@@ -50,13 +50,13 @@ fn place(sample: i32) -> usize
     }
 }
 
-// One more of a sample.
+// The counts, with one more of a sample.
 fn count(counts: [u32; 33], sample: i32) -> [u32; 33]
     requires { ⌜ (natAbs sample ≤ 16) × Below (2 ^ 31) 33 (at counts) ⌝ }
-    ensures { λ r. ⌜ r ≡ set counts (place 16 sample) (at counts (place 16 sample) + 1) ⌝ }
+    ensures { λ r. ⌜ r ≡ set counts (position 16 sample) (at counts (position 16 sample) + 1) ⌝ }
 {
     let mut more = counts;
-    let p = place(sample);
+    let p = position(sample);
     more[p] = more[p] + 1;
     more
 }

@@ -147,3 +147,21 @@ words-length d (w ∷ ws) h l = rw length-append (omega (arith, decimal-length w
 pub line-append : (f : List ℕ) (fs : List (List ℕ)) (g : List ℕ) (gs : List (List ℕ)) → line f (fs ++ (g ∷ gs)) ≡ f ++ (spaced fs ++ ((ascii " " ++ g) ++ (spaced gs ++ ascii "\n")))
 unfolding spaced
 line-append f fs g gs = rw (spaced-append fs (g ∷ gs), append-assoc (spaced fs) (spaced (g ∷ gs)) (ascii "\n"), append-assoc g (spaced gs) (ascii "\n"))
+
+-- the first two fields, and those behind them
+module _ (f g : List ℕ) (gs : List (List ℕ)) where
+  pub line-pieces : line f (g ∷ gs) ≡ f ++ ((ascii " " ++ g) ++ (spaced gs ++ ascii "\n"))
+  unfolding spaced
+  line-pieces = line-append f [] g gs
+
+  pub length-line : length (line f (g ∷ gs)) ≡ 2 + length f + length g + length (spaced gs)
+  length-line = rw line-pieces (simp length-append (omega arith))
+
+-- three fields
+module _ (f g h : List ℕ) where
+  pub line-three : line f (g ∷ h ∷ []) ≡ f ++ ((ascii " " ++ g) ++ ((ascii " " ++ h) ++ ascii "\n"))
+  unfolding spaced
+  line-three = rw (line-pieces f g (h ∷ []), append-nil h)
+
+  pub length-line-three : length (line f (g ∷ h ∷ [])) ≡ 3 + length f + length g + length h
+  length-line-three = rw line-three (simp length-append (omega arith))

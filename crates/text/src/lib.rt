@@ -37,7 +37,8 @@ pub fn write_field(text: &mut [u8], at: usize, value: usize) -> usize
     write_decimal(text, start, value)
 }
 
-pub fn write_integer(text: &mut [u8], at: usize, value: i32) -> usize
+// A number with a '-' before it where it is negative.
+pub fn write_signed(text: &mut [u8], at: usize, value: i32) -> usize
     requires { ⌜ at + length (signed value) ≤ length (now text) ⌝ }
     ensures { λ r. ⌜ Wrote (now (text .entry)) at (signed value) (now (text .exit)) r ⌝ }
 {
@@ -48,13 +49,13 @@ pub fn write_integer(text: &mut [u8], at: usize, value: i32) -> usize
     write_decimal(text, at, residue::magnitude(value) as usize)
 }
 
-// An integer behind a space.
-pub fn write_signed(text: &mut [u8], at: usize, value: i32) -> usize
+// The same behind a space.
+pub fn write_signed_field(text: &mut [u8], at: usize, value: i32) -> usize
     requires { ⌜ at + length (ascii " " ++ signed value) ≤ length (now text) ⌝ }
     ensures { λ r. ⌜ Wrote (now (text .entry)) at (ascii " " ++ signed value) (now (text .exit)) r ⌝ }
 {
-    let start = write_bytes(text, at, b" ");
-    write_integer(text, start, value)
+    let behind = write_bytes(text, at, b" ");
+    write_signed(text, behind, value)
 }
 
 // Words, each behind a space. Printing compares and divides them: it is for what is shown.

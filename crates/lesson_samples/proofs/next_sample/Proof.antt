@@ -1,7 +1,5 @@
 -- A file that is too long is refused; else the records are read, and a sample whose records are whole is made.
 use mathlib.Core.Path.{_≡_, sym, ap, _∙_}
-use Prim.Native.Nat.{_≤_}
-use lib.ListN.{length}
 use Rattle.checks.specs.Laws.{Hold, accepted-holds, accepted-answer}
 use Rattle.lesson_file.specs.Answers.{sampleReading}
 use Rattle.lesson_file.specs.Layouts.{whole-sample}

@@ -14,7 +14,7 @@ use Rattle.lesson_file.specs.Layouts.{whole-sample, layout-longer}
 use Rattle.lesson_file.specs.Records.{Sample, sampleOf, layoutAt}
 use Rattle.lesson_samples.specs.Lesson.{valueOf}
 use Rattle.lesson_samples.specs.Call.{SampleBuffers, sampleBuffers}
-use Rattle.lesson_samples.specs.Steps.{SampleRoom, sampledAt}
+use Rattle.lesson_samples.specs.Steps.{sampledAt}
 use Rattle.lesson_samples.specs.SampleLaws.{value-small}
 use Rattle.lesson_samples.specs.LessonLaws.{next-holds, next-sampled}
 use Rattle.lesson_samples.specs.Walk as walk

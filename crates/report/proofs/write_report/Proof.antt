@@ -1,31 +1,19 @@
 -- The samples are counted, and their text is written.
 use mathlib.Core.Path.{_≡_, ap, ap₂, _∙_}
-use mathlib.Core.List.{List}
-use Prim.Native.Nat.{ℕ, _^_, _≤_}
 use native.Mathlib.Omega.{arith}
-use lib.ListN.{length, length-map}
+use lib.ListN.{length}
 use borrow.Author.Needs.{needs}
 use Rattle.checks.specs.Answers.{checkedReading}
-use Rattle.buffers.specs.Positions.{at, Below}
-use Rattle.tally.specs.Tally.{tallyOf}
-use Rattle.tally.specs.Bounds.{tally-room}
-use Rattle.lesson_samples.specs.Lesson.{valueOf, lesson}
-use Rattle.report.specs.Report.{valuesOf, lengthsOf, reportText}
-use Rattle.report.specs.Counted.{tallied, readingText}
+use Rattle.lesson_samples.specs.Lesson.{lesson}
+use Rattle.report.specs.Report.{reportText}
+use Rattle.report.specs.Counted.{readingText}
 use Rattle.report.specs.LineLaws.{reading-text}
-use Rattle.report.specs.Room.{fit-values, fit-bits, samples-fit, report-length}
+use Rattle.report.specs.Room.{fit-bits, samples-fit, tallied-room, report-length}
 use Rattle.report.proofs.write_report.Statement.{statement}
 use Rattle.report.proofs.write_report.Tie as tie
 
 read-samples-requires : tie.Need-read-samples-requires
 read-samples-requires c κs = search needs
-
-tallied-fit : (file : List ℕ) → let t = tallied (lesson file .samples) in (t .k ≤ 16) × Below (2 ^ 31) 33 (at (t .counts))
-unfolding tallyOf
-tallied-fit file =
-    let samples = lesson file .samples in
-    let f = samples-fit file in
-    (fit-bits samples (f .0), tally-room (lengthsOf samples) (valuesOf samples) (fit-values samples (f .0)) (omega (arith, f .1, length-map samples valueOf)) .counted)
 
 -- what was read gives the report
 read-text : (c : tie.After-read-samples) → readingText (c .read-samples .result .tally) (checkedReading (c .read-samples .result .ended)) ≡ reportText (c .before .before .before .before .before .before .before .before .before .args .file .now)
@@ -36,7 +24,9 @@ write-reading-requires c κs =
     let d = c .before .before .before .before .before .before .before in
     let s = d .before .before .before .before .before .before .before .before .before in
     let file = s .args .file .now in
-    (rw (d .read-samples .ensures .1) (tallied-fit file .0), rw (d .read-samples .ensures .1) (tallied-fit file .1), omega (arith, s .pre .1, ap length (read-text d), report-length file (λ i. d .before .before .before .before .before .before .before .before .shared-slice-known .given i .fits)))
+    let samples = lesson file .samples in
+    let f = samples-fit file in
+    (rw (d .read-samples .ensures .1) (fit-bits samples (f .0)), rw (d .read-samples .ensures .1) (tallied-room samples (f .0) (f .1) .counted), omega (arith, s .pre .1, ap length (read-text d), report-length file (λ i. d .before .before .before .before .before .before .before .before .shared-slice-known .given i .fits)))
 
 same-length : tie.Need-same-length
 same-length c = search needs

@@ -1,5 +1,4 @@
 -- The checks' verdict; a refusal comes before anything is written, and behind the checks there is room for the report.
-use lib.ListN.{length}
 use borrow.Author.Needs.{needs}
 use Rattle.lesson_samples.specs.CallLaws.{call-room, call-refused, call-done}
 use Rattle.report.specs.Report.{reportText}

@@ -1,5 +1,5 @@
 -- The buffers have the sizes that `make_text` asks for, and the report is no longer than its buffer.
-use mathlib.Core.Path.{refl, sym}
+use mathlib.Core.Path.{sym}
 use lib.Seq.{length-take-le}
 use borrow.Author.Needs.{needs}
 use Rattle.report_program.proofs.main.Statement.{statement}
@@ -30,7 +30,7 @@ slice-aggregate-make-text-3 : tie.Need-slice-aggregate-make-text-3
 slice-aggregate-make-text-3 c = search needs
 
 make-text-requires : tie.Need-make-text-requires
-make-text-requires c κs = (search needs, search needs, refl, search needs)
+make-text-requires c κs = search needs
 
 array-share-prefix-text : tie.Need-array-share-prefix-text
 array-share-prefix-text c = search needs

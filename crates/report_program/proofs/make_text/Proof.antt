@@ -1,8 +1,6 @@
 -- The library accepts, and the text stands in front: that of the bytes read, and so of the whole input.
-use mathlib.Core.Path.{sym, ap, _∙_}
-use Prim.Native.Nat.{ℕ, _≤_}
+use mathlib.Core.Path.{sym}
 use native.Mathlib.Omega.{arith}
-use lib.ListN.{length, length-replicate}
 use lib.Seq.{length-take-le}
 use Rattle.lesson_samples.specs.CallLaws.{text-in-front, never-refused}
 use Rattle.lesson_samples.specs.Input.{text-of-input}
@@ -49,8 +47,7 @@ same-length-4 c = search needs
 returns-2 : tie.Need-returns-2
 returns-2 c =
     let s = c .before .before .before .before .before .before .before .before .before .before .before .before .before .before .before .before .before in
-    let w : 1792 ≤ length (s .args .words .now) = omega (arith, ap length (s .pre .2) ∙ length-replicate {A = ℕ} 1792 0) in
-    absurd (never-refused _ _ _ _ _ _ _ _ _ (c .before .before .before .before .before .before .before .before .write-text .ensures) record { word-room = w; share-room = omega arith; row-room = omega arith } (s .pre .3) _ (c .enum-told .given .1))
+    absurd (never-refused _ _ _ _ _ _ _ _ _ (c .before .before .before .before .before .before .before .before .write-text .ensures) record { word-room = s .pre .2; share-room = omega arith; row-room = omega arith } (s .pre .3) _ (c .enum-told .given .1))
 
 pub make-text-spec : {M : Type 1} → statement M
 make-text-spec =

@@ -23,7 +23,7 @@ fields s = let m = s .args .sampled in spaced (parameterFields (m .parameters .n
 room : (s : tie.Start) → s .args .at + (2 + length (decimal (s .args .number)) + length (fields s) + length (signed (s .args .sampled .value)) + length (spaced (map decimal (s .args .shares .now)))) ≤ length (s .args .text .now)
 room s = rw length-fields-line at (s .pre)
 
--- the value is itself when write_signed reads it
+-- the value is itself when write_signed_field reads it
 read : (c : tie.After-struct-told) → let z = c .before .before .before .before .before .before .before .before .before .before .before .before .args .sampled .value in toZ w32 (ofZ w32 z) ≡ z
 read c = toZ-ofZ (record { sfits = c .struct-told .given .1 .1 .0 .1 })
 
@@ -33,8 +33,8 @@ write-decimal-requires c κs = omega (arith, room (c .before .before .before))
 write-parameters-requires : tie.Need-write-parameters-requires
 write-parameters-requires c κs = omega (arith, room (c .before .before .before .before .before .before .before))
 
-write-signed-requires : tie.Need-write-signed-requires
-write-signed-requires c κs = rw (read c) (omega (arith, room (c .before .before .before .before .before .before .before .before .before .before .before .before)))
+write-signed-field-requires : tie.Need-write-signed-field-requires
+write-signed-field-requires c κs = rw (read c) (omega (arith, room (c .before .before .before .before .before .before .before .before .before .before .before .before)))
 
 write-words-requires : tie.Need-write-words-requires
 write-words-requires c κs = omega (arith, room (c .before .before .before .before .before .before .before .before .before .before .before .before .before .before .before .before), ap (λ z. length (signed z)) (read (c .before .before .before .before)))
@@ -50,7 +50,7 @@ same-length c = search needs
 
 returns : tie.Need-returns
 returns c =
-    let w = rw (read (c .before .before .before .before .before .before .before .before .before .before .before .before)) at (c .before .before .before .before .before .before .before .before .before .before .before .write-signed .ensures) in
+    let w = rw (read (c .before .before .before .before .before .before .before .before .before .before .before .before)) at (c .before .before .before .before .before .before .before .before .before .before .before .write-signed-field .ensures) in
     rw fields-line (wrote-then _ _ _ _ (c .before .before .before .before .before .before .before .before .before .before .before .before .before .before .before .before .before .before .before .before .write-decimal .ensures)
     (wrote-then _ _ (fields (c .before .before .before .before .before .before .before .before .before .before .before .before .before .before .before .before .before .before .before .before .before .before .before .before)) _ (c .before .before .before .before .before .before .before .before .before .before .before .before .before .before .before .before .write-parameters .ensures)
     (wrote-then _ _ _ _ w (wrote-then _ _ _ _ (c .before .before .before .before .before .before .before .write-words .ensures) (c .before .before .write-bytes .ensures)))))
@@ -61,7 +61,7 @@ write-line-spec =
     (tie.spec
     write-decimal-requires
     write-parameters-requires
-    write-signed-requires
+    write-signed-field-requires
     write-words-requires
     slice-aggregate-write-bytes
     write-bytes-requires

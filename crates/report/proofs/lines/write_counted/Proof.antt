@@ -1,5 +1,5 @@
 -- Nothing, or the line.
-use mathlib.Core.Path.{_≡_, ap, _∙_}
+use mathlib.Core.Path.{_≡_, ap}
 use mathlib.Core.List.{_∷_}
 use Prim.Native.Nat.{_^_}
 use native.Mathlib.Omega.{arith}
@@ -15,7 +15,7 @@ use Rattle.report.proofs.lines.write_counted.Statement.{statement}
 use Rattle.report.proofs.lines.write_counted.Tie as tie
 
 -- the line, by what was handed on
-present : (c : tie.After-sample-at) → let a = c .before .before .before .before .args in linesText (a .mixed) (a .k) (lineOf (sampleAt (a .e)) (a .times)) ≡ line (signed (c .sample-at .result)) (decimal (a .times) ∷ exactFields (a .mixed) (a .count) (4 ^ a .k))
+present : (c : tie.After-sample-at) → let a = c .before .before .before .before .args in linesText (a .mixed) (a .k) (lineOf (sampleAt (a .e)) (a .times)) ≡ line (signed (c .sample-at .result)) (decimal (a .times) ∷ exactFields (a .mixed) (a .ways) (4 ^ a .k))
 present c =
     let s = c .before .before .before .before in
     rw (c .sample-at .ensures, s .pre .2) (line-present (s .args .mixed) (s .args .k) (sampleAt (s .args .e)) (s .args .times) (c .before .before .if1 .left))

@@ -1,5 +1,5 @@
 -- Nothing, or two fields, one behind the other.
-use mathlib.Core.Path.{_≡_, ap, _∙_}
+use mathlib.Core.Path.{ap, _∙_}
 use Prim.Native.Nat.{_+_, _^_, _≤_}
 use native.Mathlib.Omega.{arith}
 use lib.ListN.{length}
@@ -12,10 +12,10 @@ use Rattle.report.proofs.lines.write_exact.Statement.{statement}
 use Rattle.report.proofs.lines.write_exact.Tie as tie
 
 -- what is required, by the pieces' lengths
-room : (c : tie.Else1) → let a = c .before .before .args in a .at + (2 + length (decimal (a .count)) + length (decimal (4 ^ a .k))) ≤ length (a .text .now)
+room : (c : tie.Else1) → let a = c .before .before .args in a .at + (2 + length (decimal (a .ways)) + length (decimal (4 ^ a .k))) ≤ length (a .text .now)
 room c =
     let s = c .before .before in
-    omega (arith, s .pre .1, ap (λ m. length (spaced (exactFields m (s .args .count) (4 ^ s .args .k)))) (c .if1 .left) ∙ length-exact (s .args .count) (4 ^ s .args .k))
+    omega (arith, s .pre .1, ap (λ m. length (spaced (exactFields m (s .args .ways) (4 ^ s .args .k)))) (c .if1 .left) ∙ length-exact (s .args .ways) (4 ^ s .args .k))
 
 returns : tie.Need-returns
 returns c = rw (c .if1 .taken, spaced-none) (wrote-nothing _ _)

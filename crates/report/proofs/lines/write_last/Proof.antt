@@ -13,7 +13,7 @@ use Rattle.report.specs.LineLaws.{last-pieces, length-last}
 use Rattle.report.proofs.lines.write_last.Statement.{statement}
 use Rattle.report.proofs.lines.write_last.Tie as tie
 
--- the sum is itself when write_integer reads it
+-- the sum is itself when write_signed reads it
 read : (s : tie.Start) → toZ w32 (ofZ w32 (s .args .sum)) ≡ s .args .sum
 read s = toZ-ofZ (s .fits .sum)
 
@@ -21,8 +21,8 @@ read s = toZ-ofZ (s .fits .sum)
 room : (s : tie.Start) → s .args .at + (3 + length (signed (toZ w32 (ofZ w32 (s .args .sum)))) + length (decimal (s .args .squares)) + length (decimal (s .args .total))) ≤ length (s .args .text .now)
 room s = rw (read s) (rw length-last at (s .pre))
 
-write-integer-requires : tie.Need-write-integer-requires
-write-integer-requires c κs = omega (arith, room (c .before .before))
+write-signed-requires : tie.Need-write-signed-requires
+write-signed-requires c κs = omega (arith, room (c .before .before))
 
 write-field-requires : tie.Need-write-field-requires
 write-field-requires c κs = omega (arith, room (c .before .before .before .before .before .before))
@@ -41,14 +41,14 @@ same-length c = search needs
 
 returns : tie.Need-returns
 returns c =
-    let w = rw (read (c .before .before .before .before .before .before .before .before .before .before .before .before .before .before .before .before .before .before)) at (c .before .before .before .before .before .before .before .before .before .before .before .before .before .before .before .write-integer .ensures) in
+    let w = rw (read (c .before .before .before .before .before .before .before .before .before .before .before .before .before .before .before .before .before .before)) at (c .before .before .before .before .before .before .before .before .before .before .before .before .before .before .before .write-signed .ensures) in
     rw last-pieces (wrote-then _ _ _ _ w (wrote-then _ _ _ _ (c .before .before .before .before .before .before .before .before .before .before .before .write-field .ensures) (wrote-then _ _ _ _ (c .before .before .before .before .before .before .before .write-field2 .ensures) (c .before .before .write-bytes .ensures))))
 
 pub write-last-spec : {M : Type 1} → statement M
 write-last-spec =
     tie.close
     (tie.spec
-    write-integer-requires
+    write-signed-requires
     write-field-requires
     write-field-requires-2
     slice-aggregate-write-bytes

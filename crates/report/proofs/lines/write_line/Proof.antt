@@ -8,22 +8,21 @@ use mir.Val.{toZ, ofZ}
 use mir.Facts.{toZ-ofZ}
 use borrow.Author.Needs.{needs}
 use Rattle.text.specs.Text.{decimal, signed, spaced}
-use Rattle.text.specs.Laws.{wrote-then}
+use Rattle.text.specs.Laws.{wrote-then, line-pieces, length-line}
 use Rattle.report.specs.Report.{exactFields}
-use Rattle.report.specs.LineLaws.{line-pieces, length-line}
 use Rattle.report.proofs.lines.write_line.Statement.{statement}
 use Rattle.report.proofs.lines.write_line.Tie as tie
 
--- the sample is itself when write_integer reads it
+-- the sample is itself when write_signed reads it
 read : (s : tie.Start) → toZ w32 (ofZ w32 (s .args .sample)) ≡ s .args .sample
 read s = toZ-ofZ (s .fits .sample)
 
 -- what is required, by the pieces' lengths
-room : (s : tie.Start) → s .args .at + (2 + length (signed (toZ w32 (ofZ w32 (s .args .sample)))) + length (decimal (s .args .times)) + length (spaced (exactFields (s .args .mixed) (s .args .count) (4 ^ s .args .k)))) ≤ length (s .args .text .now)
+room : (s : tie.Start) → s .args .at + (2 + length (signed (toZ w32 (ofZ w32 (s .args .sample)))) + length (decimal (s .args .times)) + length (spaced (exactFields (s .args .mixed) (s .args .ways) (4 ^ s .args .k)))) ≤ length (s .args .text .now)
 room s = rw (read s) (rw length-line at (s .pre .1))
 
-write-integer-requires : tie.Need-write-integer-requires
-write-integer-requires c κs = omega (arith, room (c .before .before))
+write-signed-requires : tie.Need-write-signed-requires
+write-signed-requires c κs = omega (arith, room (c .before .before))
 
 write-field-requires : tie.Need-write-field-requires
 write-field-requires c κs = omega (arith, room (c .before .before .before .before .before .before))
@@ -42,14 +41,14 @@ same-length c = search needs
 
 returns : tie.Need-returns
 returns c =
-    let w = rw (read (c .before .before .before .before .before .before .before .before .before .before .before .before .before .before .before .before .before .before)) at (c .before .before .before .before .before .before .before .before .before .before .before .before .before .before .before .write-integer .ensures) in
+    let w = rw (read (c .before .before .before .before .before .before .before .before .before .before .before .before .before .before .before .before .before .before)) at (c .before .before .before .before .before .before .before .before .before .before .before .before .before .before .before .write-signed .ensures) in
     rw line-pieces (wrote-then _ _ _ _ w (wrote-then _ _ _ _ (c .before .before .before .before .before .before .before .before .before .before .before .write-field .ensures) (wrote-then _ _ _ _ (c .before .before .before .before .before .before .before .write-exact .ensures) (c .before .before .write-bytes .ensures))))
 
 pub write-line-spec : {M : Type 1} → statement M
 write-line-spec =
     tie.close
     (tie.spec
-    write-integer-requires
+    write-signed-requires
     write-field-requires
     write-exact-requires
     slice-aggregate-write-bytes

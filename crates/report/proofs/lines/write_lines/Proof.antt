@@ -3,15 +3,13 @@ use mathlib.Core.Path.{_≡_, refl, ap, _∙_}
 use mathlib.Core.List.{List}
 use Prim.Native.Nat.{ℕ, _+_, _-_, _≤_}
 use native.Mathlib.Omega.{arith}
-use lib.ListN.{length, length-append}
+use lib.ListN.{length}
 use borrow.Author.Needs.{needs}
 use Rattle.buffers.specs.Positions.{at}
 use Rattle.pairs.specs.Rows.{row-beside}
-use Rattle.tally.specs.Tally.{lineOf, sampleAt}
 use Rattle.text.specs.Text.{Wrote}
 use Rattle.text.specs.Laws.{wrote-nothing, wrote-then}
-use Rattle.report.specs.Report.{linesText}
-use Rattle.report.specs.LineLaws.{firstLines, lines-none, lines-next, lines-within}
+use Rattle.report.specs.LineLaws.{firstLines, lines-none, lines-next, line-room}
 use Rattle.report.proofs.lines.write_lines.Statement.{statement}
 use Rattle.report.proofs.lines.write_lines.Tie as tie
 
@@ -47,13 +45,7 @@ write-counted-requires c κs =
     let s = c .before .before .before .before .before .before in
     let l = c .before .before .before .before .loop in
     let t = c .before .before .before .loop-test .taken in
-    let n = at (s .args .counts .now) in
-    let e : l .e + 1 + (32 - l .e) ≡ 33 = omega arith in (
-      t,
-      s .pre .0,
-      ap (λ (r : List ℕ). at r (1 + l .e)) (s .pre .2) ∙ row-beside (s .args .k) (l .e) t,
-      omega (arith, s .pre .3, l .inv .1 .1, l .inv .2, ap (λ m. length (firstLines (s .args .mixed) (s .args .k) n m)) e, lines-within (s .args .mixed) (s .args .k) n (32 - l .e) (l .e + 1), ap length (lines-next (s .args .mixed) (s .args .k) n (l .e)) ∙ length-append (firstLines (s .args .mixed) (s .args .k) n (l .e)) (linesText (s .args .mixed) (s .args .k) (lineOf (sampleAt (l .e)) (n (l .e))))),
-    )
+    (t, s .pre .0, ap (λ (r : List ℕ). at r (1 + l .e)) (s .pre .2) ∙ row-beside (s .args .k) (l .e) t, omega (arith, s .pre .3, l .inv .1 .1, l .inv .2, line-room (s .args .mixed) (s .args .k) (at (s .args .counts .now)) (l .e) t))
 
 add-e : tie.Need-add-e Inv-loop μ-loop
 add-e c = search needs

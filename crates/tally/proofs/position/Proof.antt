@@ -8,15 +8,15 @@ use lib.Signed.{ltZ}
 use mir.Facts.{toZ-ofZ}
 use borrow.Author.Needs.{needs}
 use borrow.Author.Tests.{ltb-true}
-use Rattle.pairs.specs.Integers.{place}
-use Rattle.tally.proofs.place.Statement.{statement}
-use Rattle.tally.proofs.place.Tie as tie
+use Rattle.pairs.specs.Integers.{position}
+use Rattle.tally.proofs.position.Statement.{statement}
+use Rattle.tally.proofs.position.Tie as tie
 
-below : (z : ℤ) → ltZ z (pos 0) ≡ true → 16 - natAbs z ≡ place 16 z
+below : (z : ℤ) → ltZ z (pos 0) ≡ true → 16 - natAbs z ≡ position 16 z
 below (pos a) e = absurd (omega (arith, ltb-true a 0 e))
 below (negsuc a) e = refl
 
-from : (z : ℤ) → ltZ z (pos 0) ≡ false → 16 + natAbs z ≡ place 16 z
+from : (z : ℤ) → ltZ z (pos 0) ≡ false → 16 + natAbs z ≡ position 16 z
 from (pos a) e = refl
 from (negsuc a) e = absurd (true≢false e)
 
@@ -45,6 +45,6 @@ returns-2 c =
     let s = c .before .before in
     ap (λ (m : ℕ). 16 + m) (magnitude (c .before)) ∙ from (s .args .sample) (rw (toZ-ofZ (s .fits .sample)) at (c .if1 .left))
 
-pub place-spec : {M : Type 1} → statement M
-place-spec =
+pub position-spec : {M : Type 1} → statement M
+position-spec =
     tie.close (tie.spec magnitude-requires cast-magnitude sub-result add-result returns returns-2)
