@@ -240,8 +240,8 @@ tp_answer tp_lesson_text(const uint8_t *file, size_t file_len, uint16_t *words, 
 /* Writes the class report of a lesson file, as the report program prints it, in front of the text buffer. Answers its length in bytes. It has a
  * line for each centred sample that occurs, from lowest to highest: the sample and how many times it came; where all samples share one k, also
  * the number of pairs of k-bit strings with that difference of weights, and 4 to the power k. Its last line has the sum of the samples, the sum of
- * their squares and their number. What is wrong with the file is said in the text, which then is that one line. The word buffer is afterwards as
- * tp_lesson_text leaves it for the file.
+ * their squares and their number. Where something is wrong with the file, the text is the lesson program's refusal line alone. The word buffer is
+ * afterwards as tp_lesson_text leaves it for the file.
  * Refuses 8 (a word buffer of fewer than 1,792 words); 10 (a text buffer of fewer than 1,200 bytes, whatever the file). Text bytes past the text
  * keep their content. */
 TP_NODISCARD

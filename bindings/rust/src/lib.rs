@@ -225,8 +225,8 @@ pub fn lesson_text(file: &[u8], words: &mut [u16], text: &mut [u8]) -> Result<us
 /// Writes the class report of a lesson file, as the report program prints it, in front of the text buffer. Answers its length in bytes. There is
 /// a line for each centred sample that occurs, from lowest to highest: the sample and how many times it came; where all samples share one k,
 /// also the number of pairs of k-bit strings with that difference of weights, and 4 to the power k. The last line has the sum of the samples,
-/// the sum of their squares and their number. What is wrong with the file is said in the text, which then is that line alone. The word buffer
-/// is afterwards as [`lesson_text`] leaves it.
+/// the sum of their squares and their number. Where something is wrong with the file, the text is the lesson program's refusal line alone. The
+/// word buffer is afterwards as [`lesson_text`] leaves it.
 ///
 /// Refuses, in this order: `WordCount`, for a word buffer of fewer than [`MAX_WORDS`] words; `OutputRoom`, for a text buffer of fewer than
 /// [`REPORT_ROOM`] bytes, whatever the file. Text bytes past the text keep their content.

@@ -232,7 +232,7 @@ pub extern "C" fn tp_sample_polynomial(
     answer(polynomial::sample_polynomial(n, k, q, m, x, y, words, out, work))
 }
 
-// The output and the work area of the samples are the call's own.
+// The output and the work area of the samples are the call's own, here and in the next.
 #[no_mangle]
 pub extern "C" fn tp_lesson_text(file: &[u8], words: &mut [Word], text: &mut [u8]) -> TpAnswer
     ensures { λ r. ⌜ returned r (wordsAndText (now (words .exit)) (now (text .exit))) ≡ answered (lessonTextWritten (now (file .entry)) (now (words .entry)) (now (text .entry))) ⌝ }
@@ -242,7 +242,6 @@ pub extern "C" fn tp_lesson_text(file: &[u8], words: &mut [Word], text: &mut [u8
     answer(lesson::write_text(file, words, &mut out, &mut work, text))
 }
 
-// As above.
 #[no_mangle]
 pub extern "C" fn tp_report_text(file: &[u8], words: &mut [Word], text: &mut [u8]) -> TpAnswer
     ensures { λ r. ⌜ returned r (wordsAndText (now (words .exit)) (now (text .exit))) ≡ answered (reportTextWritten (now (file .entry)) (now (words .entry)) (now (text .entry))) ⌝ }
