@@ -1,9 +1,8 @@
 -- The number of pairs of k-bit strings with a given difference (document 02, A.4).
 use mathlib.Core.Bool.{Bool, false, cond}
-use mathlib.Core.List.{List}
 use Prim.Native.Nat.{ℕ, _^_}
 use lib.Dec.{eqb}
-use lib.IntN.{ℤ, pos, negsuc, _-ℤ_}
+use lib.IntN.{ℤ, pos, negsuc}
 use Rattle.residue.specs.Residue.{total}
 use Rattle.buffers.specs.Positions.{table}
 use Rattle.binomial.specs.Signed.{differenceOfWeights}
@@ -26,7 +25,3 @@ sumTo n f = total (table n f)
 -- how many pairs of k-bit strings x, y have the difference d, for k up to 16
 unfoldable pub pairs : ℕ → ℤ → ℕ
 pairs k d = sumTo (2 ^ k) (λ x. sumTo (2 ^ k) (λ y. indicator (sameℤ (differenceOfWeights x y) d)))
-
--- for each difference from -17 to 17
-unfoldable pub pairRow : ℕ → List ℕ
-pairRow k = table 35 (λ j. pairs k (pos j -ℤ pos 17))

@@ -8,8 +8,12 @@ use lib.ListN.{set, replicate}
 use Rattle.residue.specs.Integers.{minus-suc-left, minus-suc-right}
 use Rattle.buffers.specs.Positions.{at, table, Same, Below}
 use Rattle.buffers.specs.PositionLaws.{table-at, table-same, table-last}
-use Rattle.pairs.specs.Pairs.{sameℤ, indicator, pairs, pairRow}
+use Rattle.pairs.specs.Pairs.{sameℤ, indicator, pairs}
 use Rattle.pairs.specs.PairLaws.{pairs-none, pairs-next, pairs-le, pairs-outside, power-lt}
+
+-- for each difference from -17 to 17
+unfoldable pub pairRow : ℕ → List ℕ
+pairRow k = table 35 (λ j. pairs k (pos j -ℤ pos 17))
 
 -- the entry of the next row at position j + 1
 abbrev pub nextEntry : (ℕ → ℕ) → ℕ → ℕ

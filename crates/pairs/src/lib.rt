@@ -2,8 +2,7 @@
 ghost use mathlib.Core.Path.{_≡_};
 ghost use Prim.Native.Nat.{_^_, _≤_};
 ghost use Rattle.buffers.specs.Positions.{at, Below};
-ghost use Rattle.pairs.specs.Pairs.{pairRow};
-ghost use Rattle.pairs.specs.Rows.{nextRow};
+ghost use Rattle.pairs.specs.Rows.{pairRow, nextRow};
 
 // The row of strings that have one bit more.
 fn next_row(row: [u64; 35]) -> [u64; 35]

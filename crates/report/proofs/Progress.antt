@@ -5,7 +5,7 @@ use Prim.Native.Nat.{ℕ, _≤_}
 use native.Mathlib.Omega.{arith}
 use lib.IntN.{natAbs}
 use lib.ListN.{length, length-append, length-map}
-use Rattle.tally.specs.Tally.{tallyOf}
+use Rattle.tally.specs.Counted.{tallyOf}
 use Rattle.tally.specs.Bounds.{Room}
 use Rattle.tally.specs.OneMore.{withOne, tally-one}
 use Rattle.tally.specs.declared.Tally.{Tally}

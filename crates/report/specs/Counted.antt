@@ -3,7 +3,8 @@ use mathlib.Core.List.{List, _++_}
 use Prim.Native.Nat.{ℕ}
 use Rattle.buffers.specs.Positions.{at}
 use Rattle.checks.specs.Checks.{Verdict}
-use Rattle.tally.specs.Tally.{sampleAt, linesOf, tallyOf}
+use Rattle.tally.specs.Tally.{sampleAt, linesOf}
+use Rattle.tally.specs.Counted.{tallyOf}
 use Rattle.tally.specs.declared.Tally.{Tally}
 use Rattle.lesson_file.specs.Records.{Sample}
 use Rattle.report.specs.Report.{valuesOf, lengthsOf, linesText, lastLine, endedText}

@@ -34,7 +34,7 @@ linesText mixed k (l ∷ ls) = lineText mixed k l ++ linesText mixed k ls
 
 -- the sum of the samples, the sum of their squares, and how many they are
 unfoldable pub lastLine : ℤ → ℕ → ℕ → List ℕ
-lastLine sum squares total = line (signed sum) (decimal squares ∷ decimal total ∷ [])
+lastLine sum squareSum total = line (signed sum) (decimal squareSum ∷ decimal total ∷ [])
 
 -- of a complete file, whose total is the number of its samples
 unfoldable pub samplesText : List Sample → List ℕ
@@ -54,7 +54,7 @@ textOf l = endedText (samplesText (l .samples)) (endingVerdict (l .ending))
 abbrev pub reportText : List ℕ → List ℕ
 reportText file = textOf (lesson file)
 
--- Room for the report of every file: 33 lines of at most 35 bytes, and a last one of at most 45.
+-- Room for the report of every file: 33 lines of at most 32 bytes and a last one of at most 23, rounded up.
 abbrev pub reportRoom : ℕ
 reportRoom = 1200
 

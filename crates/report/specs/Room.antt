@@ -82,20 +82,20 @@ sample-small e h = go (decLe 16 e)
         rw (minus-below e 16 l) (omega arith)
 
 module _ (mixed : Bool) (k : ℕ) (h : k ≤ 16) where
-  line-length : (d : ℤ) (times : ℕ) → natAbs d ≤ 16 → times < 10 ^ 5 → length (linesText mixed k (lineOf d times)) ≤ 35
+  line-length : (d : ℤ) (times : ℕ) → natAbs d ≤ 16 → times < 10 ^ 5 → length (linesText mixed k (lineOf d times)) ≤ 32
   line-length d times a b = go (ℕ-discrete times 0)
     where
-      go : Dec (times ≡ 0) → length (linesText mixed k (lineOf d times)) ≤ 35
+      go : Dec (times ≡ 0) → length (linesText mixed k (lineOf d times)) ≤ 32
       go (yes e) = rw (line-absent mixed k d times e) (omega arith)
       go (no e) = rw (line-present mixed k d times e) (omega (arith, length-line (signed d) (decimal times) (exactFields mixed (pairs k d) (4 ^ k)), signed-length d 2 (omega arith) (omega arith), decimal-length times 5 b (omega arith), exact-length mixed (pairs k d) (4 ^ k) (omega (arith, pairs-le k d, power-lt k h)) (power-lt k h)))
 
-  lines-length : (n : ℕ → ℕ) → ((e : ℕ) → n e < 10 ^ 5) → (m : ℕ) → m ≤ 33 → length (firstLines mixed k n m) ≤ 35 * m
+  lines-length : (n : ℕ → ℕ) → ((e : ℕ) → n e < 10 ^ 5) → (m : ℕ) → m ≤ 33 → length (firstLines mixed k n m) ≤ 32 * m
   lines-length n b zero l = rw (lines-none mixed k n) (omega arith)
   lines-length n b (suc m) l =
       rw (← add-one m, lines-next mixed k n m, length-append)
       (omega (arith, lines-length n b m (omega arith), line-length (sampleAt m) (n m) (sample-small m l) (b m)))
 
-last-length : (sum : ℤ) (squares total : ℕ) → natAbs sum < 10 ^ 6 → squares < 10 ^ 8 → total < 10 ^ 5 → length (lastLine sum squares total) ≤ 45
+last-length : (sum : ℤ) (squares total : ℕ) → natAbs sum < 10 ^ 6 → squares < 10 ^ 8 → total < 10 ^ 5 → length (lastLine sum squares total) ≤ 23
 last-length sum squares total h l m = omega (arith, length-last sum squares total, signed-length sum 6 h (omega arith), decimal-length squares 8 l (omega arith), decimal-length total 5 m (omega arith))
 
 samples-room : (samples : List Sample) → Fit samples → length samples ≤ 60000 → length (samplesText samples) ≤ reportRoom

@@ -28,7 +28,7 @@ struct Reading {
     ended: Checked,
 }
 
-// Counts the samples of the file, up to its end or the first refusal. Nothing is written before.
+// Counts the samples of the file, up to its end or the first refusal. No text is written here.
 fn read_samples(file: &[u8], words: &mut [Word], out: &mut [Word], work: &mut [Word]) -> Reading
     requires { ⌜ SampleRoom (length (now words)) (length (now out)) (length (now work)) ⌝ }
     ensures { λ r. ⌜ (sampleBuffers (now (words .exit)) (now (out .exit)) (now (work .exit)) ≡ afterLesson (lesson (now (file .entry))) (sampleBuffers (now (words .entry)) (now (out .entry)) (now (work .entry)))) × (r .tally ≡ tallied (lesson (now (file .entry)) .samples)) × (checkedReading (r .ended) ≡ endingVerdict (lesson (now (file .entry)) .ending)) ⌝ }

@@ -12,7 +12,8 @@ use Rattle.buffers.specs.PositionLaws.{table-at}
 use Rattle.pairs.specs.Pairs.{sameℤ}
 use Rattle.pairs.specs.Sums.{indicator-le}
 use Rattle.tally.specs.declared.Tally.{Tally}
-use Rattle.tally.specs.Tally.{EachSmall, occurrences, sampleAt, countAt, sumℤ, squares, tallyOf}
+use Rattle.tally.specs.Tally.{EachSmall, occurrences, sampleAt, countAt, sumℤ, squares}
+use Rattle.tally.specs.Counted.{tallyOf}
 
 pub occurrences-le : (d : ℤ) (zs : List ℤ) → occurrences d zs ≤ length zs
 unfolding occurrences total

@@ -14,7 +14,8 @@ use Rattle.buffers.specs.Positions.{at, table}
 use Rattle.pairs.specs.Pairs.{indicator, sumTo}
 use Rattle.pairs.specs.Sums.{sum-same, sum-zero, sum-plus, sum-pick}
 use Rattle.pairs.specs.Integers.{position, position-lt, position-minus, position-same}
-use Rattle.tally.specs.Tally.{EachSmall, occurrences, Line, lineOf, linesOf, sampleAt, countAt, lines, sumℤ, square, squares, tallyOf}
+use Rattle.tally.specs.Tally.{EachSmall, occurrences, Line, lineOf, linesOf, sampleAt, countAt, lines, sumℤ, square, squares}
+use Rattle.tally.specs.Counted.{tallyOf}
 
 -- ---- sums over the lines, and over the values that they may have
 

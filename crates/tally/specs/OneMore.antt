@@ -14,7 +14,8 @@ use Rattle.buffers.specs.PositionLaws.{length-table, table-at, table-same, tabl
 use Rattle.pairs.specs.Pairs.{sameℤ, indicator}
 use Rattle.pairs.specs.Integers.{position, position-lt, position-same}
 use Rattle.tally.specs.declared.Tally.{Tally}
-use Rattle.tally.specs.Tally.{occurrences, sampleAt, countAt, sumℤ, square, firstOf, allAre, agree, tallyOf}
+use Rattle.tally.specs.Tally.{occurrences, sampleAt, countAt, sumℤ, square, firstOf, allAre, agree}
+use Rattle.tally.specs.Counted.{tallyOf}
 
 abbrev pub withOne : Tally → ℕ → ℤ → Tally
 withOne t k z =

@@ -1,14 +1,11 @@
 -- The class report in numbers (document 02, A.4): which samples came, how often, and their sums.
-use mathlib.Core.Bool.{Bool, true, cond, not, _&&_}
+use mathlib.Core.Bool.{Bool, true, cond, _&&_}
 use mathlib.Core.List.{List, [], _∷_, _++_, map}
 use Prim.Native.Nat.{ℕ, zero, suc, _*_, _≤_}
 use lib.Dec.{eqb}
 use lib.IntN.{ℤ, pos, natAbs, _+ℤ_, _-ℤ_}
-use lib.ListN.{length}
 use Rattle.residue.specs.Residue.{total}
-use Rattle.buffers.specs.Positions.{table}
 use Rattle.pairs.specs.Pairs.{sameℤ, indicator}
-use Rattle.tally.specs.declared.Tally.{Tally}
 
 -- each sample is from -16 to 16
 abbrev pub EachSmall : List ℤ → Type 0
@@ -34,9 +31,11 @@ unfoldable pub linesOf : ℕ → (ℕ → ℤ) → (ℕ → ℕ) → List Line
 linesOf zero d n = []
 linesOf (suc m) d n = lineOf (d 0) (n 0) ++ linesOf m (λ e. d (suc e)) (λ e. n (suc e))
 
+-- the sample at position e, of which -16 is the first
 abbrev pub sampleAt : ℕ → ℤ
 sampleAt e = pos e -ℤ pos 16
 
+-- and how many times it came
 abbrev pub countAt : List ℤ → ℕ → ℕ
 countAt zs e = occurrences (sampleAt e) zs
 
@@ -70,16 +69,3 @@ allAre k (j ∷ ks) = eqb j k && allAre k ks
 -- all samples share one k
 abbrev pub agree : List ℕ → Bool
 agree ks = allAre (firstOf ks) ks
-
--- ---- all of it, of samples zs with their ks
-
-abbrev pub tallyOf : List ℕ → List ℤ → Tally
-tallyOf ks zs =
-    record {
-      counts = table 33 (countAt zs);
-      sum = sumℤ zs;
-      squares = squares zs;
-      total = length zs;
-      k = firstOf ks;
-      mixed = not (agree ks);
-    }

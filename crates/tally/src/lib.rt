@@ -8,7 +8,8 @@ ghost use lib.IntN.{natAbs, _+ℤ_};
 ghost use lib.ListN.{set};
 ghost use Rattle.buffers.specs.Positions.{at, Below};
 ghost use Rattle.pairs.specs.Integers.{position};
-ghost use Rattle.tally.specs.Tally.{square, tallyOf};
+ghost use Rattle.tally.specs.Tally.{square};
+ghost use Rattle.tally.specs.Counted.{tallyOf};
 ghost use Rattle.tally.specs.Bounds.{Room};
 ghost use Rattle.tally.specs.OneMore.{withOne};
 

@@ -5,8 +5,7 @@ use native.Mathlib.Numerals.{add-one}
 use native.Mathlib.Omega.{arith}
 use borrow.Author.Needs.{needs}
 use Rattle.buffers.specs.Positions.{at}
-use Rattle.pairs.specs.Pairs.{pairRow}
-use Rattle.pairs.specs.Rows.{nextRow, row-none, row-below, row-next}
+use Rattle.pairs.specs.Rows.{pairRow, nextRow, row-none, row-below, row-next}
 use Rattle.pairs.proofs.count_pairs.Statement.{statement}
 use Rattle.pairs.proofs.count_pairs.Tie as tie
 
