@@ -58,12 +58,12 @@ uninstall:
 bench: lib
 	@bench/run
 
-# The programs and the library come first: crates that do not depend on each other are then proved side by side, and the tests find all
-# below them proved. rt ci, whose last line is the last of all, starts from nothing.
+# The programs and what the library is made of come first, in an order in which crates that take about as long are proved side by side; the tests
+# find all below them proved. rt ci, whose last line is the last of all, starts from nothing.
 test:
 	@tools/prove fmt --check
 	@tools/setup
-	@tools/prove check lesson_program report_program exam_program
+	@tools/prove check lesson_file conversion lesson_program exam_program polynomial report_program
 	@$(MAKE) --silent --no-print-directory lib
 	tests/docs
 	tests/setup
