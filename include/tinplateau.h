@@ -18,7 +18,7 @@
 
 /* MINOR rises with a new call, MAJOR where a call or the meaning of an answer changes. */
 #define TINPLATEAU_VERSION_MAJOR 2
-#define TINPLATEAU_VERSION_MINOR 1
+#define TINPLATEAU_VERSION_MINOR 2
 
 /* Has the compiler warn where an answer is dropped; gcc does so in C in spite of a cast to void. Defined as nothing (-DTP_NODISCARD=) it is
  * off. */
@@ -48,7 +48,8 @@ extern "C" {
 #define TP_REPORT_ROOM 1200
 
 /* The random words of a converted bit, and of a sample; the words of a sample's work area, which is a polynomial's too; the shares of a
- * polynomial's x, y and output, each, and its random words; the bytes of a lesson's text buffer. They are of type size_t, and not for #if. */
+ * polynomial's x, y and output, each, and its random words; the bytes of shared ML-KEM noise, and the shares of x and y that they are split into,
+ * each; the bytes of a lesson's text buffer. They are of type size_t, and not for #if. */
 #ifdef __cplusplus
 #define TP_SIZE(number) static_cast<size_t>(number)
 #else
@@ -59,34 +60,38 @@ extern "C" {
 #define TP_SAMPLE_WORK(n, k) (2 * TP_SIZE(k) * TP_SIZE(n))
 #define TP_POLYNOMIAL_SHARES(n, m) (TP_SIZE(m) * TP_SIZE(n))
 #define TP_POLYNOMIAL_WORDS(n, k, m) (TP_SIZE(m) * TP_SAMPLE_WORDS(n, k))
+#define TP_NOISE_BYTES(n, k) (64 * TP_SIZE(k) * TP_SIZE(n))
+#define TP_NOISE_SHARES(n) (256 * TP_SIZE(n))
 #define TP_TEXT_ROOM(file_len) (TP_SIZE(file_len) > TP_MAX_FILE ? TP_SIZE(45) : 3 * TP_SIZE(file_len) + 45)
 
 /* Why a call is refused. TP_MARK to TP_FILE_LENGTH are about lesson files, and stand in a file's text only. */
 enum tp_code {
     TP_ACCEPTED = 0,
-    TP_SHARE_COUNT = 1,       /* n is not from 2 to 8 */
-    TP_STRING_LENGTH = 2,     /* k is not from 1 to 16 */
-    TP_MODULUS = 3,           /* q is too small */
-    TP_X_COUNT = 4,           /* not n Boolean shares (in a polynomial mn), of x where there are two lists */
-    TP_Y_COUNT = 5,           /* not n shares of y (in a polynomial mn) */
-    TP_X_WIDTH = 6,           /* a Boolean share, of x where there are two lists, of more than k bits */
-    TP_Y_WIDTH = 7,           /* a share of y of more than k bits */
-    TP_WORD_COUNT = 8,        /* too few random words */
-    TP_WORD_RANGE = 9,        /* a random word not below q */
-    TP_OUTPUT_ROOM = 10,      /* an output that is too short */
-    TP_WORK_ROOM = 11,        /* a work area that is too short */
-    TP_VALUE_WIDTH = 12,      /* an opened string of more than k bits */
-    TP_MASK_COUNT = 13,       /* not n - 1 masks */
-    TP_MASK_WIDTH = 14,       /* a mask of more than k bits */
-    TP_ARITHMETIC_COUNT = 15, /* not n arithmetic shares */
-    TP_ARITHMETIC_RANGE = 16, /* an arithmetic share not below q */
-    TP_RESIDUE_RANGE = 17,    /* an opened residue not below q */
-    TP_MARK = 18,             /* a mark that is not allowed where it stands */
-    TP_CUT_SHORT = 19,        /* the file ends within a record or a sample */
-    TP_WORD_LIMIT = 20,       /* a count of random words above 1,792 */
-    TP_FILE_LENGTH = 21,      /* a file of more than 60,000 bytes */
-    TP_SET_NUMBER = 22,       /* no published parameter set has this number */
-    TP_COEFFICIENT_COUNT = 23 /* m is not from 1 to 256 */
+    TP_SHARE_COUNT = 1,        /* n is not from 2 to 8 */
+    TP_STRING_LENGTH = 2,      /* k is not from 1 to 16 */
+    TP_MODULUS = 3,            /* q is too small */
+    TP_X_COUNT = 4,            /* not n Boolean shares (in a polynomial mn), of x where there are two lists */
+    TP_Y_COUNT = 5,            /* not n shares of y (in a polynomial mn) */
+    TP_X_WIDTH = 6,            /* a Boolean share, of x where there are two lists, of more than k bits */
+    TP_Y_WIDTH = 7,            /* a share of y of more than k bits */
+    TP_WORD_COUNT = 8,         /* too few random words */
+    TP_WORD_RANGE = 9,         /* a random word not below q */
+    TP_OUTPUT_ROOM = 10,       /* an output that is too short */
+    TP_WORK_ROOM = 11,         /* a work area that is too short */
+    TP_VALUE_WIDTH = 12,       /* an opened string of more than k bits */
+    TP_MASK_COUNT = 13,        /* not n - 1 masks */
+    TP_MASK_WIDTH = 14,        /* a mask of more than k bits */
+    TP_ARITHMETIC_COUNT = 15,  /* not n arithmetic shares */
+    TP_ARITHMETIC_RANGE = 16,  /* an arithmetic share not below q */
+    TP_RESIDUE_RANGE = 17,     /* an opened residue not below q */
+    TP_MARK = 18,              /* a mark that is not allowed where it stands */
+    TP_CUT_SHORT = 19,         /* the file ends within a record or a sample */
+    TP_WORD_LIMIT = 20,        /* a count of random words above 1,792 */
+    TP_FILE_LENGTH = 21,       /* a file of more than 60,000 bytes */
+    TP_SET_NUMBER = 22,        /* no published parameter set has this number */
+    TP_COEFFICIENT_COUNT = 23, /* m is not from 1 to 256 */
+    TP_NOISE_SET = 24,         /* a published parameter set, but not 1 or 2, which are ML-KEM's */
+    TP_NOISE_LENGTH = 25       /* not n strings of 64k noise bytes */
 };
 
 /* Code 0: accepted, and the value is a count, or where a call has a start the position behind its last word. Else a number of enum tp_code, and
@@ -228,6 +233,16 @@ tp_answer tp_sample(size_t n, size_t k, uint16_t q, const uint16_t *x, size_t x_
 TP_NODISCARD
 tp_answer tp_sample_polynomial(size_t n, size_t k, uint16_t q, size_t m, const uint16_t *x, size_t x_len, const uint16_t *y, size_t y_len,
                                const uint16_t *words, size_t words_len, uint16_t *out, size_t out_len, uint16_t *work, size_t work_len);
+
+/* Splits shared ML-KEM noise into the x and y shares of 256 coefficients, as tp_sample_polynomial takes them with m = 256 and the k and q of the
+ * set. set is 1 or 2 (tp_parameter_set). The bytes are n strings of 64k, one behind the other, whose XOR is what FIPS 203 gives to SamplePolyCBD.
+ * Share i of coefficient t, from 0, goes to position tn + i of x and of y, and is read off string i: bit j of x is bit 2tk + j of the string, and
+ * bit j of y is bit 2tk + k + j, the lowest bit of each byte first. Opened, coefficient t is then f[t] of SamplePolyCBD. Answers 256n, the words
+ * written to each list. Takes no random words.
+ * Refuses 1 (n); 22 (no such set); 24 (a set that is not 1 or 2); 25 (not exactly 64kn bytes); 10 (fewer than 256n words in x or in y). Words past
+ * 256n keep their content. */
+TP_NODISCARD
+tp_answer tp_split_noise(size_t n, size_t set, const uint8_t *bytes, size_t bytes_len, uint16_t *x, size_t x_len, uint16_t *y, size_t y_len);
 
 /* Writes the text of a lesson file, as the lesson program prints it, in front of the text buffer. Answers its length in bytes. What is
  * wrong with the file is said in the text. The words of each sample whose records are whole, also of one that is then refused, fill the word

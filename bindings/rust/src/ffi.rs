@@ -176,6 +176,18 @@ extern "C" {
         work_len: usize,
     ) -> tp_answer;
 
+    /// Splits shared ML-KEM noise into the shares of 256 coefficients.
+    pub fn tp_split_noise(
+        n: usize,
+        set: usize,
+        bytes: *const u8,
+        bytes_len: usize,
+        x: *mut u16,
+        x_len: usize,
+        y: *mut u16,
+        y_len: usize,
+    ) -> tp_answer;
+
     /// Writes the text of a lesson file.
     pub fn tp_lesson_text(file: *const u8, file_len: usize, words: *mut u16, words_len: usize, text: *mut u8, text_len: usize) -> tp_answer;
 

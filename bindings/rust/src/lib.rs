@@ -6,7 +6,7 @@ mod refusal;
 mod sizes;
 
 pub use refusal::{Reason, Refusal};
-pub use sizes::{bit_words, polynomial_shares, polynomial_words, sample_words, sample_work, text_room};
+pub use sizes::{bit_words, noise_bytes, noise_shares, polynomial_shares, polynomial_words, sample_words, sample_work, text_room};
 pub use sizes::{MAX_BITS, MAX_COEFFICIENTS, MAX_FILE, MAX_SHARES, MAX_WORDS, MIN_BITS, MIN_COEFFICIENTS, MIN_SHARES, REPORT_ROOM};
 
 /// An opened string: its k bits, bit 0 the lowest.
@@ -210,6 +210,18 @@ pub fn sample_polynomial(
             work.len(),
         )
     })
+}
+
+/// Splits shared ML-KEM noise into the x and y shares of 256 coefficients, as [`sample_polynomial`] takes them with m = 256 and the k and q of the
+/// set, which is 1 or 2 ([`parameter_set`]). The bytes are n strings of 64k, one behind the other, whose XOR is what FIPS 203 gives to
+/// SamplePolyCBD. Share i of coefficient t, from 0, goes to position t * n + i of x and of y, and is read off string i: bit j of x is bit
+/// 2tk + j of the string, and bit j of y is bit 2tk + k + j, the lowest bit of each byte first. Opened, coefficient t is then f\[t\] of
+/// SamplePolyCBD. Answers [`noise_shares`], the words written to each list. Takes no random words.
+///
+/// Refuses, in this order: `ShareCount`; `SetNumber`; `NoiseSet`, for a set that is not 1 or 2; `NoiseLength`, for not exactly [`noise_bytes`];
+/// `OutputRoom`, for fewer than [`noise_shares`] words in x or in y. Words past those keep their content.
+pub fn split_noise(n: usize, set: usize, bytes: &[u8], x: &mut [u16], y: &mut [u16]) -> Result<usize, Refusal> {
+    answered(unsafe { ffi::tp_split_noise(n, set, bytes.as_ptr(), bytes.len(), x.as_mut_ptr(), x.len(), y.as_mut_ptr(), y.len()) })
 }
 
 /// Writes the text of a lesson file, as the lesson program prints it, in front of the text buffer. Answers its length in bytes. What is wrong

@@ -28,7 +28,7 @@ pub const MAX_FILE: usize = 60_000;
 /// The bytes that the text buffer of [`report_text`](crate::report_text) must have for every file.
 pub const REPORT_ROOM: usize = 1_200;
 
-/// The random words that [`convert_bit`](crate::convert_bit) takes: n(n - 1). This and the next four saturate.
+/// The random words that [`convert_bit`](crate::convert_bit) takes: n(n - 1). This and the next six saturate.
 pub const fn bit_words(n: usize) -> usize {
     n.saturating_mul(n.saturating_sub(1))
 }
@@ -51,6 +51,16 @@ pub const fn polynomial_shares(n: usize, m: usize) -> usize {
 /// The random words that [`sample_polynomial`](crate::sample_polynomial) takes: 2mkn(n - 1).
 pub const fn polynomial_words(n: usize, k: usize, m: usize) -> usize {
     m.saturating_mul(sample_words(n, k))
+}
+
+/// The bytes that [`split_noise`](crate::split_noise) takes: n strings of 64k.
+pub const fn noise_bytes(n: usize, k: usize) -> usize {
+    k.saturating_mul(64).saturating_mul(n)
+}
+
+/// The shares that [`split_noise`](crate::split_noise) writes to x and to y: 256n each.
+pub const fn noise_shares(n: usize) -> usize {
+    n.saturating_mul(256)
 }
 
 /// The bytes that the text buffer of [`lesson_text`](crate::lesson_text) must have for a file of so many.

@@ -4,3 +4,4 @@ pub mod Positions
 pub mod PositionLaws
 pub mod Rows
 pub mod Blocks
+pub mod Columns

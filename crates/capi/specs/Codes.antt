@@ -14,6 +14,7 @@ use Rattle.binomial.specs.Sets.{setChecks, parameterSet}
 use Rattle.conversion.specs.Conversion.{bitChecks, converted}
 use Rattle.sampler.specs.Sampler.{sampleChecks, sampled}
 use Rattle.polynomial.specs.Polynomial.{polynomialChecks, sampledPolynomial}
+use Rattle.noise.specs.Split.{noiseChecks, noiseSplit}
 use Rattle.lesson_samples.specs.Call.{callChecks, pieceWritten}
 use Rattle.lesson.specs.Text.{lessonText, textRoom}
 use Rattle.report.specs.Report.{reportText, reportRoom}
@@ -61,6 +62,10 @@ module _ (code position : ℕ) where
   pub sample-polynomial-code : (n k q m : ℕ) (x y words out work : List ℕ) → sampledPolynomial n k q m x y words out work .answer ≡ refused code position → 0 < code
   unfolding sampledPolynomial
   sample-polynomial-code n k q m x y words out work e = numbered _ (polynomialChecks n k q m x y words (length out) (length work)) refl (sym (settled-answer _ _ _) ∙ e)
+
+  pub split-noise-code : (n number : ℕ) (bytes x y : List ℕ) → noiseSplit n number bytes x y .answer ≡ refused code position → 0 < code
+  unfolding noiseSplit
+  split-noise-code n number bytes x y e = numbered _ (noiseChecks n number bytes (length x) (length y)) refl (sym (settled-answer _ _ _) ∙ e)
 
   -- the calls that write a text about a lesson file ask the same of their buffers
   text-code : (room : ℕ) (piece file words text : List ℕ) → pieceWritten room piece file words (replicate 8 0) (replicate 256 0) text .answer ≡ refused code position → 0 < code

@@ -19,6 +19,7 @@ ghost use Rattle.sampler.specs.Sampler.{both, sampled};
 ghost use Rattle.sampler.specs.Secrecy.{Secrecy};
 ghost use Rattle.polynomial.specs.Polynomial.{sampledPolynomial};
 ghost use Rattle.polynomial.specs.Secrecy.{PolynomialSecrecy};
+ghost use Rattle.noise.specs.Split.{targets, noiseSplit};
 ghost use Rattle.capi.specs.Structs.{answerOf, stringOf, residueOf, signedOf, parametersOf, returned, answered};
 ghost use Rattle.capi.specs.FileText.{wordsAndText, lessonTextWritten, reportTextWritten};
 
@@ -230,6 +231,19 @@ pub extern "C" fn tp_sample_polynomial(
     ensures secrecy { λ _. ⌜ PolynomialSecrecy n k q m ⌝ }
 {
     answer(polynomial::sample_polynomial(n, k, q, m, x, y, words, out, work))
+}
+
+#[no_mangle]
+pub extern "C" fn tp_split_noise(
+    n: usize,
+    set: usize,
+    bytes: &[u8],
+    x: &mut [u16],
+    y: &mut [u16],
+) -> TpAnswer
+    ensures { λ r. ⌜ returned r (targets (now (x .exit)) (now (y .exit))) ≡ answered (noiseSplit n set (now (bytes .entry)) (now (x .entry)) (now (y .entry))) ⌝ }
+{
+    answer(noise::split_noise(n, set, bytes, x, y))
 }
 
 // The output and the work area of the samples are the call's own, here and in the next.

@@ -3,3 +3,4 @@ pub mod Checks
 pub mod Width
 pub mod Answers
 pub mod Laws
+pub mod FromBits

@@ -101,6 +101,12 @@ pub const SET_NUMBER: u32 = 22;
 // m, the number of coefficients, is not from 1 to 256.
 pub const COEFFICIENT_COUNT: u32 = 23;
 
+// The parameter set is published, but is not 1 or 2, which are ML-KEM's.
+pub const NOISE_SET: u32 = 24;
+
+// There are not n strings of 64k noise bytes.
+pub const NOISE_LENGTH: u32 = 25;
+
 pub fn refuse(code: u32, position: usize) -> Checked
     ensures { λ r. ⌜ checkedReading r ≡ refused code position ⌝ }
 {

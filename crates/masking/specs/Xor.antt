@@ -1,17 +1,19 @@
 -- Laws of the XOR of numbers and of lists.
-use mathlib.Core.Path.{_≡_, refl, sym, ap, _∙_}
+use mathlib.Core.Path.{_≡_, refl, sym, ap, ap₂, _∙_}
 use mathlib.Core.List.{List, [], _∷_, _++_}
-use Prim.Native.Nat.{ℕ, suc, suc-le-suc, _/_, _%_, _^_, _<_}
+use Prim.Native.Nat.{ℕ, zero, suc, suc-le-suc, _+_, _*_, _/_, _%_, _^_, _<_}
 use native.Mathlib.Nat.{zero-div}
 use native.Mathlib.Omega.{arith}
 use lib.Arith.{bin-ind}
-use lib.Bits.{bitXor, xor-add-and, xor-shr, xor-mod, xor-comm, xor-self, xor-zero-r, xor-lt}
+use lib.Bits.{bitXor, xor-add-and, xor-shr, xor-mod, xor-comm, xor-self, xor-zero-r, xor-lt, xor-block}
 use lib.ListN.{length}
 use lib.Pow.{pow-pos}
 use Rattle.residue.specs.Residue.{reduce, add, EachBelow}
 use Rattle.residue.specs.Laws.{add-assoc, add-reduce-left, add-reduce-right}
 use Rattle.buffers.specs.Positions.{at, table}
+use Rattle.buffers.specs.PositionLaws.{table-below}
 use Rattle.checks.specs.Width.{bit}
+use Rattle.checks.specs.FromBits.{fromBits, AreBits}
 use Rattle.masking.specs.Sharing.{xorAll}
 
 pub xor-half : (a b : ℕ) → bitXor a b / 2 ≡ bitXor (a / 2) (b / 2)
@@ -65,3 +67,29 @@ pub xorAll-lt : (k : ℕ) (l : List ℕ) → EachBelow (2 ^ k) l → xorAll l < 
 unfolding xorAll
 xorAll-lt k [] h = pow-pos k
 xorAll-lt k (x ∷ l) h = xor-lt k x (xorAll l) (h 0 (omega arith)) (xorAll-lt k l (λ i m. h (suc i) (suc-le-suc m)))
+
+-- ---- bit by bit
+
+-- the XOR of two numbers is that of their bits
+from-xor : (k : ℕ) (f g : ℕ → ℕ) → AreBits f → AreBits g → fromBits k (λ j. bitXor (f j) (g j)) ≡ bitXor (fromBits k f) (fromBits k g)
+unfolding fromBits
+from-xor zero f g h l = refl
+from-xor (suc k) f g h l =
+    let a : ℕ = fromBits k (λ j. f (suc j)) in
+    let b : ℕ = fromBits k (λ j. g (suc j)) in
+    let c : f 0 + 2 * a ≡ a * 2 ^ 1 + f 0 = omega arith in
+    let d : g 0 + 2 * b ≡ b * 2 ^ 1 + g 0 = omega arith in
+    omega (arith, from-xor k (λ j. f (suc j)) (λ j. g (suc j)) (λ j. h (suc j)) (λ j. l (suc j)), xor-block 1 a b (f 0) (g 0) (h 0) (l 0), ap₂ bitXor c d)
+
+no-bits : (k : ℕ) → fromBits k (λ j. 0) ≡ 0
+unfolding fromBits
+no-bits zero = refl
+no-bits (suc k) = omega (arith, no-bits k)
+
+-- and so is that of n numbers
+pub from-xorAll : (k n : ℕ) (f : ℕ → ℕ → ℕ) → ((i : ℕ) → AreBits (f i)) → xorAll (table n (λ i. fromBits k (f i))) ≡ fromBits k (λ j. xorAll (table n (λ i. f i j)))
+unfolding xorAll table
+from-xorAll k zero f h = sym (no-bits k)
+from-xorAll k (suc n) f h =
+    ap (bitXor (fromBits k (f 0))) (from-xorAll k n (λ i. f (suc i)) (λ i. h (suc i)))
+    ∙ sym (from-xor k (f 0) (λ j. xorAll (table n (λ i. f (suc i) j))) (h 0) (λ j. xorAll-lt 1 (table n (λ i. f (suc i) j)) (table-below 2 n _ (λ i l. h (suc i) j))))

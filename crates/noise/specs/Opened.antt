@@ -1,0 +1,75 @@
+-- Opened, the shares are the words of the opened bytes, and their weight differences the polynomial of FIPS 203.
+use mathlib.Core.Path.{_≡_, refl, sym, ap, ap₂, _∙_}
+use mathlib.Core.List.{List}
+use Prim.Native.Nat.{ℕ, zero, suc, _+_, _*_, _/_, _%_, _^_, _≤_, _<_}
+use native.Mathlib.Omega.{arith}
+use lib.IntN.{pos, _-ℤ_}
+use lib.ListN.{length-take, List·getD-eq-default, drop}
+use Rattle.residue.specs.Residue.{reduceℤ, EachBelow}
+use Rattle.buffers.specs.Positions.{at, table, block}
+use Rattle.buffers.specs.PositionLaws.{table-same, length-table, table-at, list-table}
+use Rattle.buffers.specs.Rows.{rows-below}
+use Rattle.buffers.specs.Blocks.{block-rows}
+use Rattle.checks.specs.Width.{bit}
+use Rattle.checks.specs.FromBits.{from-same, from-lt}
+use Rattle.masking.specs.Sharing.{xorAll}
+use Rattle.masking.specs.Xor.{bit-xorAll, from-xorAll}
+use Rattle.binomial.specs.Signed.{weight, differenceOfWeights}
+use Rattle.binomial.specs.Weight.{weight-bits, bitSum-from}
+use Rattle.noise.specs.Fips203.{bytesToBits, bitsFrom, samplePolyCBD}
+use Rattle.noise.specs.Split.{noiseString, wordAt, xWord, yWord, noiseShares, openedBytes}
+use Rattle.noise.specs.BitLaws.{bits-at, are-bits}
+
+module _ (k : ℕ) (string : List ℕ) (s : ℕ) where
+  pub word-lt : wordAt k string s < 2 ^ k
+  word-lt = from-lt k _ (λ j. are-bits string (s + j))
+
+  weight-word : k ≤ 16 → weight (wordAt k string s) ≡ bitsFrom k (bytesToBits string) s
+  weight-word l = weight-bits k (wordAt k string s) l word-lt ∙ bitSum-from k _ (λ j. are-bits string (s + j))
+
+xorAll-zeros : (n : ℕ) (f : ℕ → ℕ) → ((i : ℕ) → f i ≡ 0) → xorAll (table n f) ≡ 0
+unfolding xorAll table
+xorAll-zeros zero f h = refl
+xorAll-zeros (suc n) f h = rw (h 0, xorAll-zeros n (λ i. f (suc i)) (λ i. h (suc i)))
+
+bit-opened : (n t : ℕ) (f : ℕ → ℕ) → bit (xorAll (table n f)) t ≡ xorAll (table n (λ i. bit (f i) t))
+bit-opened n t f = bit-xorAll t (table n f) ∙ rw (length-table n f) (ap xorAll (table-same n _ _ (λ i l. ap (λ (x : ℕ). bit x t) (table-at n f i l))))
+
+module _ (n k : ℕ) (bytes : List ℕ) where
+  opened-at : (p : ℕ) → at (openedBytes n k bytes) p ≡ xorAll (table n (λ i. at (noiseString k bytes i) p))
+  unfolding openedBytes block
+  opened-at p =
+      ap (λ (f : ℕ → ℕ). f p) (list-table (64 * k) _ (λ p l. xorAll-zeros n _ (λ i. List·getD-eq-default (noiseString k bytes i) 0 (omega (arith, length-take (64 * k) (drop (i * (64 * k)) bytes))))))
+
+  -- bit p of the opened bytes is the XOR of the strings' bits p
+  opened-bit : (p : ℕ) → at (bytesToBits (openedBytes n k bytes)) p ≡ xorAll (table n (λ i. at (bytesToBits (noiseString k bytes i)) p))
+  opened-bit p =
+      bits-at (openedBytes n k bytes) p ∙ ap (λ (x : ℕ). bit x (p % 8)) (opened-at (p / 8)) ∙ bit-opened n (p % 8) _
+      ∙ ap xorAll (table-same n _ _ (λ i l. sym (bits-at (noiseString k bytes i) p)))
+
+  -- and so it is with words
+  pub opened-word : (s : ℕ) → xorAll (table n (λ i. wordAt k (noiseString k bytes i) s)) ≡ wordAt k (openedBytes n k bytes) s
+  opened-word s =
+      from-xorAll k n (λ i j. at (bytesToBits (noiseString k bytes i)) (s + j)) (λ i j. are-bits (noiseString k bytes i) (s + j))
+      ∙ from-same k _ _ (λ j l. sym (opened-bit (s + j)))
+
+  -- every word has k bits
+  pub x-below : EachBelow (2 ^ k) (noiseShares xWord n k bytes)
+  x-below = rows-below (2 ^ k) 256 n _ (λ t l i m. word-lt k (noiseString k bytes i) (2 * t * k))
+
+  pub y-below : EachBelow (2 ^ k) (noiseShares yWord n k bytes)
+  y-below = rows-below (2 ^ k) 256 n _ (λ t l i m. word-lt k (noiseString k bytes i) (2 * t * k + k))
+
+  module _ (t : ℕ) (h : t < 256) where
+    pub x-opened : xorAll (block n t (noiseShares xWord n k bytes)) ≡ xWord k (openedBytes n k bytes) t
+    x-opened = ap xorAll (block-rows 256 n _ t h) ∙ opened-word (2 * t * k)
+
+    pub y-opened : xorAll (block n t (noiseShares yWord n k bytes)) ≡ yWord k (openedBytes n k bytes) t
+    y-opened = ap xorAll (block-rows 256 n _ t h) ∙ opened-word (2 * t * k + k)
+
+    pub coefficient-opened : (q : ℕ) → k ≤ 16 → reduceℤ q (differenceOfWeights (xorAll (block n t (noiseShares xWord n k bytes))) (xorAll (block n t (noiseShares yWord n k bytes)))) ≡ at (samplePolyCBD q k (openedBytes n k bytes)) t
+    unfolding samplePolyCBD
+    coefficient-opened q l =
+        let B = openedBytes n k bytes in
+        ap (reduceℤ q) (ap₂ (λ (x y : ℕ). pos x -ℤ pos y) (ap weight x-opened ∙ weight-word k B (2 * t * k) l) (ap weight y-opened ∙ weight-word k B (2 * t * k + k) l))
+        ∙ sym (table-at 256 _ t h)
