@@ -4,9 +4,6 @@
 #include <stdio.h>
 #include <string.h>
 
-static const enum tp_code checks[] = {TP_SHARE_COUNT, TP_STRING_LENGTH, TP_MODULUS,     TP_X_COUNT,   TP_Y_COUNT, TP_X_WIDTH,
-                                      TP_Y_WIDTH,     TP_WORD_COUNT,    TP_WORD_RANGE,  TP_OUTPUT_ROOM, TP_WORK_ROOM, TP_COEFFICIENT_COUNT};
-
 /* Not from low to high. */
 static size_t random_outside(size_t low, size_t high)
 {
@@ -18,7 +15,7 @@ static size_t one_off(size_t number)
     return number + 1 - 2 * random_within(0, 1);
 }
 
-/* Makes a number of a call unfit for one of the checks. */
+/* Makes a number of a sampler's call unfit for one of the checks. */
 static void damage_number(call *c, point p, size_t m, enum tp_code check)
 {
     size_t shares = TP_POLYNOMIAL_SHARES(p.n, m);
@@ -54,15 +51,30 @@ static void damage_list(call *c, point p, size_t m, enum tp_code check)
         c->words[random_within(0, TP_POLYNOMIAL_WORDS(p.n, p.k, m) - 1)] = random_within(p.q, UINT16_MAX);
 }
 
+/* The same for a split. */
+static void damage_split(call *c, point p, enum tp_code check)
+{
+    if (check == TP_SHARE_COUNT)
+        c->p.n = random_outside(TP_MIN_SHARES, TP_MAX_SHARES);
+    else if (check == TP_SET_NUMBER)
+        c->set = random_outside(1, 7);
+    else if (check == TP_NOISE_SET)
+        c->set = random_within(3, 7);
+    else if (check == TP_NOISE_LENGTH)
+        c->bytes_len = one_off(TP_NOISE_BYTES(p.n, p.k));
+    else if (check == TP_OUTPUT_ROOM)
+        *(random_within(0, 1) ? &c->x_len : &c->y_len) = random_within(0, TP_NOISE_SHARES(p.n) - 1);
+}
+
 static void run(const contestant *who, const call *c, outcome *o)
 {
     memset(o, 0xa5, sizeof *o);
-    tp_answer answer = run_call(who, c, o->out, o->work);
+    tp_answer answer = run_call(who, c, o);
     o->answer.code = answer.code;
     o->answer.value = answer.value;
 }
 
-/* The same answer, output and work area. Single calls need not agree on a call that was made unfit: they write the coefficients before. */
+/* The same answer and the same in every list. Single calls need not agree on a call that was made unfit: they write the coefficients before. */
 static bool all_agree(const contest *in, const call *c, bool damaged)
 {
     static outcome expected, got;
@@ -87,25 +99,29 @@ static bool agree_at(const contest *in, point p)
     call c;
     bool agreed = true;
     size_t m = random_within(1, in->m);
-    make_call(&c, p, m);
+    make_call(&c, in, p, m);
     for (size_t damages = 0; agreed && damages < 3; damages++) {
         agreed = all_agree(in, &c, damages > 0);
-        enum tp_code check = checks[random_within(0, in->checks - 1)];
-        damage_number(&c, p, m, check);
-        damage_list(&c, p, m, check);
+        enum tp_code check = in->checks[random_within(0, in->checks_len - 1)];
+        if (in->splits)
+            damage_split(&c, p, check);
+        else {
+            damage_number(&c, p, m, check);
+            damage_list(&c, p, m, check);
+        }
     }
     free_call(&c);
     return agreed;
 }
 
-/* At every n and k, with a random q. */
+/* At every n and k, with a random q where one is asked for. */
 bool agree_everywhere(const contest *in)
 {
-    size_t calls = 0;
+    size_t calls = 0, least_k = in->splits ? 2 : TP_MIN_BITS, most_k = in->splits ? 3 : TP_MAX_BITS;
     for (size_t round = 0; round < in->agreements; round++)
         for (size_t n = TP_MIN_SHARES; n <= TP_MAX_SHARES; n++)
-            for (size_t k = TP_MIN_BITS; k <= TP_MAX_BITS; k++) {
-                if (!agree_at(in, (point){n, k, random_within(2 * k + 1, UINT16_MAX)}))
+            for (size_t k = least_k; k <= most_k; k++) {
+                if (!agree_at(in, (point){n, k, in->splits ? 3329 : random_within(2 * k + 1, UINT16_MAX)}))
                     return false;
                 calls += 3;
             }

@@ -1,4 +1,4 @@
-/* The library's sampler beside samplers in C, on the same inputs: samples, and polynomials.
+/* The library's sampler beside samplers in C, on the same inputs: samples, and polynomials. The same for the split of noise.
  *
  *   bench agree           checks that all leave the same behind
  *   bench time            times all; writes lines 'CONTEST POINT NAME NANOSECONDS', for one coefficient
@@ -33,7 +33,7 @@ static void run_inputs(const contestant *who, const call *calls, size_t inputs, 
     static outcome o;
     for (size_t pass = 0; pass < passes; pass++)
         for (size_t i = 0; i < inputs; i++)
-            run_call(who, &calls[i], o.out, o.work);
+            run_call(who, &calls[i], &o);
 }
 
 /* Nanoseconds a coefficient. The stack begins at a random place of a page, so that no time depends on one layout. */
@@ -77,7 +77,7 @@ static void time_all(const contest *in, table least)
     call *calls[POINTS];
     size_t passes[POINTS];
     for (size_t at = 0; at < POINTS; at++) {
-        calls[at] = make_calls(in, points[at]);
+        calls[at] = make_calls(in, in->points[at]);
         time_round(in, calls[at], 1, least[at]);
         passes[at] = 1 + BATCH_NS / (least[at][0] * in->inputs * in->m);
     }
@@ -142,7 +142,7 @@ static int count_inputs(const contest *in, size_t at, const char *name)
 {
     if (in == NULL || at >= POINTS || find_contestant(in, name) == in->count)
         return 2;
-    run_inputs(&in->contestants[find_contestant(in, name)], make_calls(in, points[at]), in->inputs, 1);
+    run_inputs(&in->contestants[find_contestant(in, name)], make_calls(in, in->points[at]), in->inputs, 1);
     return 0;
 }
 

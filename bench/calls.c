@@ -30,8 +30,24 @@ static uint16_t *make_list(size_t len, size_t limit)
     return list;
 }
 
-/* An accepted call. */
-void make_call(call *c, point p, size_t m)
+/* The bytes of a point, whose k is that of set 1 or 2. */
+static void make_split(call *c, point p)
+{
+    size_t len = TP_NOISE_BYTES(p.n, p.k), shares = TP_NOISE_SHARES(p.n);
+    *c = (call){.p = p,
+                .m = TP_MAX_COEFFICIENTS,
+                .x_len = shares + random_within(0, SPARE),
+                .y_len = shares + random_within(0, SPARE),
+                .set = p.k - 1,
+                .bytes_len = len,
+                .bytes = calloc(len + SPARE, 1)};
+    if (c->bytes == NULL)
+        abort();
+    for (size_t i = 0; i < len; i++)
+        c->bytes[i] = random_within(0, UINT8_MAX);
+}
+
+static void make_sample(call *c, point p, size_t m)
 {
     size_t shares = TP_POLYNOMIAL_SHARES(p.n, m);
     *c = (call){.p = p,
@@ -48,8 +64,18 @@ void make_call(call *c, point p, size_t m)
     c->words = make_list(c->words_len, p.q);
 }
 
+/* An accepted call. */
+void make_call(call *c, const contest *in, point p, size_t m)
+{
+    if (in->splits)
+        make_split(c, p);
+    else
+        make_sample(c, p, m);
+}
+
 void free_call(call *c)
 {
+    free(c->bytes);
     free(c->x);
     free(c->y);
     free(c->words);
@@ -62,6 +88,6 @@ call *make_calls(const contest *in, point p)
     if (calls == NULL)
         abort();
     for (size_t i = 0; i < in->inputs; i++)
-        make_call(&calls[i], p, in->m);
+        make_call(&calls[i], in, p, in->m);
     return calls;
 }

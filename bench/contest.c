@@ -3,29 +3,40 @@
 
 sampler plain_sample_gcc, careful_sample_gcc;
 polynomial_sampler careful_polynomial_gcc;
+noise_splitter plain_noise_gcc, careful_noise_gcc;
 #ifdef WITH_CLANG
 sampler plain_sample_clang, careful_sample_clang;
 polynomial_sampler careful_polynomial_clang;
+noise_splitter plain_noise_clang, careful_noise_clang;
 enum { COMPILERS = 2 };
 #else
 enum { COMPILERS = 1 };
 #endif
 
-const point points[POINTS] = {{2, 2, 3329}, {3, 3, 3329}, {4, 8, 12289}, {8, 16, 12289}};
+static const point sampler_points[POINTS] = {{2, 2, 3329}, {3, 3, 3329}, {4, 8, 12289}, {8, 16, 12289}};
+static const point split_points[POINTS] = {{2, 2, 3329}, {3, 3, 3329}, {4, 2, 3329}, {8, 3, 3329}};
 
-#define CALLS_SAMPLE(kind, title, name) {kind, title, #name, name, NULL, NULL}
-#define CALLS_STARTING(kind, title, name) {kind, title, #name, NULL, name, NULL}
-#define CALLS_POLYNOMIAL(kind, title, name) {kind, title, #name, NULL, NULL, name}
+/* The last is a polynomial's alone. */
+static const enum tp_code sampler_checks[] = {TP_SHARE_COUNT, TP_STRING_LENGTH, TP_MODULUS,    TP_X_COUNT,     TP_Y_COUNT,   TP_X_WIDTH,
+                                              TP_Y_WIDTH,     TP_WORD_COUNT,    TP_WORD_RANGE, TP_OUTPUT_ROOM, TP_WORK_ROOM, TP_COEFFICIENT_COUNT};
+static const enum tp_code split_checks[] = {TP_SHARE_COUNT, TP_SET_NUMBER, TP_NOISE_SET, TP_NOISE_LENGTH, TP_OUTPUT_ROOM};
+
+#define CALLS_SAMPLE(kind, title, name) {kind, title, #name, false, .sample = name}
+#define CALLS_STARTING(kind, title, name) {kind, title, #name, false, .starting = name}
+#define CALLS_POLYNOMIAL(kind, title, name) {kind, title, #name, true, .polynomial = name}
+#define CALLS_SPLIT(kind, title, name) {kind, title, #name, true, .split = name}
 
 const contest contests[CONTESTS] = {
     {
         .name = "samples",
         .title = "samples",
         .unit = "sample",
+        .points = sampler_points,
         .m = 1,
         .inputs = 64,
-        .checks = 11,
         .agreements = 20,
+        .checks_len = 11,
+        .checks = sampler_checks,
         .goals = {{PLAIN, "plain C", 0.85, 0, 2}, {CAREFUL, "careful C", 1.05, 0, 2}},
         .count = 1 + 2 * COMPILERS,
         .contestants =
@@ -45,10 +56,12 @@ const contest contests[CONTESTS] = {
         .name = "polynomials",
         .title = "polynomials of 256 coefficients",
         .unit = "coefficient",
+        .points = sampler_points,
         .m = 256,
         .inputs = 1,
-        .checks = 12,
         .agreements = 4,
+        .checks_len = 12,
+        .checks = sampler_checks,
         .goals = {{SINGLE, "single calls", 1.00, 0.03, 2}, {CAREFUL, "careful C", 1.00, 0, 3}},
         .count = 2 + COMPILERS,
         .contestants =
@@ -58,6 +71,32 @@ const contest contests[CONTESTS] = {
                 CALLS_POLYNOMIAL(CAREFUL, "careful gcc", careful_polynomial_gcc),
 #ifdef WITH_CLANG
                 CALLS_POLYNOMIAL(CAREFUL, "careful clang", careful_polynomial_clang),
+#endif
+            },
+    },
+    {
+        .name = "noise",
+        .title = "noise of 256 coefficients",
+        .unit = "coefficient",
+        .points = split_points,
+        .splits = true,
+        .m = 256,
+        .inputs = 4,
+        .agreements = 100,
+        .checks_len = 5,
+        .checks = split_checks,
+        .goals = {{PLAIN, "plain C", 1.00, 0, 2}, {CAREFUL, "careful C", 0, 0, 2}},
+        .count = 1 + 2 * COMPILERS,
+        .contestants =
+            {
+                CALLS_SPLIT(LIBRARY, "library", tp_split_noise),
+                CALLS_SPLIT(PLAIN, "plain gcc", plain_noise_gcc),
+#ifdef WITH_CLANG
+                CALLS_SPLIT(PLAIN, "plain clang", plain_noise_clang),
+#endif
+                CALLS_SPLIT(CAREFUL, "careful gcc", careful_noise_gcc),
+#ifdef WITH_CLANG
+                CALLS_SPLIT(CAREFUL, "careful clang", careful_noise_clang),
 #endif
             },
     },

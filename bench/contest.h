@@ -1,4 +1,4 @@
-/* The contests: who samples what, on which calls. A sample is seen as a polynomial of one coefficient. */
+/* The contests: who samples or splits what, on which calls. A sample is seen as a polynomial of one coefficient. */
 #ifndef BENCH_CONTEST_H
 #define BENCH_CONTEST_H
 
@@ -12,7 +12,7 @@ enum {
     MAX_WORK = 2 * TP_MAX_BITS * TP_MAX_SHARES,
     MAX_CONTESTANTS = 5,
     POINTS = 4,
-    CONTESTS = 2,
+    CONTESTS = 3,
     GOALS = 2
 };
 
@@ -24,19 +24,24 @@ typedef tp_answer starting_sampler(size_t n, size_t k, uint16_t q, const uint16_
 typedef tp_answer polynomial_sampler(size_t n, size_t k, uint16_t q, size_t m, const uint16_t *x, size_t x_len, const uint16_t *y,
                                      size_t y_len, const uint16_t *words, size_t words_len, uint16_t *out, size_t out_len, uint16_t *work,
                                      size_t work_len);
+typedef tp_answer noise_splitter(size_t n, size_t set, const uint8_t *bytes, size_t bytes_len, uint16_t *x, size_t x_len, uint16_t *y,
+                                 size_t y_len);
 
 typedef enum { LIBRARY, SINGLE, PLAIN, CAREFUL } kind;
 
-/* Either `polynomial` is called once, or `sample` or `starting` for each coefficient. `name` is the function's. */
+/* `whole`: `polynomial` or `split` is called once; else `sample` or `starting` for each coefficient. `name` is the function's. */
 typedef struct {
     kind kind;
     const char *title, *name;
+    bool whole;
     sampler *sample;
     starting_sampler *starting;
     polynomial_sampler *polynomial;
+    noise_splitter *split;
 } contestant;
 
-/* At most this share of the time of the fastest of a kind, from n shares on; missed where it is exceeded by more than the noise. */
+/* At most this share of the time of the fastest of a kind, from n shares on; missed where it is exceeded by more than the noise. Where it is 0 there
+ * is no goal, and the two are only shown side by side. */
 typedef struct {
     kind kind;
     const char *title;
@@ -44,43 +49,48 @@ typedef struct {
     size_t from;
 } goal;
 
-/* The goals are about the first contestant. It is timed on `inputs` calls of m coefficients; agreement is tried `agreements` times at every n and k,
- * with calls unfit for the first `checks` checks of agree.c. */
-typedef struct {
-    const char *name, *title, *unit;
-    size_t m, inputs, checks, agreements;
-    goal goals[GOALS];
-    size_t count;
-    contestant contestants[MAX_CONTESTANTS];
-} contest;
-
 typedef struct {
     size_t n, k;
     uint16_t q;
 } point;
 
-/* What a call is given. Lists are as long as they are lent, or longer. `other_shares` and `other_words` are those of m - 1 coefficients. */
+/* The goals are about the first contestant. It is timed on `inputs` calls of m coefficients; agreement is tried `agreements` times at every n and k,
+ * with calls unfit for these checks. `splits`: the contestants split noise, which takes no random words, and k is 2 or 3. */
+typedef struct {
+    const char *name, *title, *unit;
+    const point *points;
+    bool splits;
+    size_t m, inputs, agreements, checks_len;
+    const enum tp_code *checks;
+    goal goals[GOALS];
+    size_t count;
+    contestant contestants[MAX_CONTESTANTS];
+} contest;
+
+/* What a call is given. Lists are as long as they are lent, or longer. `other_shares` and `other_words` are those of m - 1 coefficients. A split has
+ * the set and the bytes, and x_len and y_len are those of the outcome's lists. */
 typedef struct {
     point p;
     size_t m, x_len, y_len, words_len, out_len, work_len, other_shares, other_words;
     uint16_t *x, *y, *words;
+    size_t set, bytes_len;
+    uint8_t *bytes;
 } call;
 
-/* What a call leaves behind. */
+/* What a call leaves behind: a sampler its work area and output, a split x in place of the output, and y. */
 typedef struct {
     tp_answer answer;
-    uint16_t work[MAX_WORK + SPARE], out[MAX_SHARES + SPARE];
+    uint16_t work[MAX_WORK + SPARE], out[MAX_SHARES + SPARE], y[MAX_SHARES + SPARE];
 } outcome;
 
 /* One number for each point and contestant. */
 typedef double table[POINTS][MAX_CONTESTANTS];
 
 extern const contest contests[CONTESTS];
-extern const point points[POINTS];
 
 /* calls.c */
 size_t random_within(size_t low, size_t high);
-void make_call(call *c, point p, size_t m);
+void make_call(call *c, const contest *in, point p, size_t m);
 void free_call(call *c);
 call *make_calls(const contest *in, point p);
 
@@ -93,12 +103,15 @@ void print_counts(const contest *in, const table counts);
 
 /* The call as a contestant makes it. Where that takes m calls, each is lent its part of the lists; the answer is the first refusal, or the words
  * of all. Nothing is worked out before a sample: that would be timed. */
-static inline tp_answer run_call(const contestant *who, const call *c, uint16_t *out, uint16_t *work)
+static inline tp_answer run_call(const contestant *who, const call *c, outcome *o)
 {
     size_t n = c->p.n, k = c->p.k;
     const uint16_t *x = c->x, *y = c->y, *words = c->words;
-    if (who->polynomial != NULL)
-        return who->polynomial(n, k, c->p.q, c->m, x, c->x_len, y, c->y_len, words, c->words_len, out, c->out_len, work, c->work_len);
+    uint16_t *out = o->out, *work = o->work;
+    if (who->whole)
+        return who->split != NULL ? who->split(n, c->set, c->bytes, c->bytes_len, out, c->x_len, o->y, c->y_len)
+                                  : who->polynomial(n, k, c->p.q, c->m, x, c->x_len, y, c->y_len, words, c->words_len, out, c->out_len, work,
+                                                    c->work_len);
     for (size_t left = c->m;;) {
         tp_answer one = who->starting != NULL
                             ? who->starting(n, k, c->p.q, x, c->x_len - c->other_shares, y, c->y_len - c->other_shares, words,

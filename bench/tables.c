@@ -21,10 +21,10 @@ static void print_values(const contest *in, const char *what, const table values
         printf(" %14s", in->contestants[who].title);
     putchar('\n');
     for (size_t at = 0; at < POINTS; at++) {
-        point p = points[at];
+        point p = in->points[at];
         print_point(p);
         for (size_t who = 0; who < in->count; who++)
-            printf(" %14.*f", per_word ? 2 : 1, values[at][who] / (per_word ? TP_SAMPLE_WORDS(p.n, p.k) : 1));
+            printf(" %14.*f", per_word || in->splits ? 2 : 1, values[at][who] / (per_word ? TP_SAMPLE_WORDS(p.n, p.k) : 1));
         putchar('\n');
     }
     putchar('\n');
@@ -47,7 +47,7 @@ static void print_ratios(const contest *in, const char *what, const table values
         printf(" %14s", in->goals[g].title);
     putchar('\n');
     for (size_t at = 0; at < POINTS; at++) {
-        print_point(points[at]);
+        print_point(in->points[at]);
         for (size_t g = 0; g < GOALS; g++)
             printf(" %14.3f", ratio(in, values[at], in->goals[g].kind));
         putchar('\n');
@@ -65,7 +65,7 @@ static void print_goal(const contest *in, const goal *g, const table values)
         printf(", with %.0f in 100 allowed for noise", 100 * g->noise);
     putchar(':');
     for (size_t at = 0; at < POINTS; at++) {
-        point p = points[at];
+        point p = in->points[at];
         double r = ratio(in, values[at], g->kind);
         if (p.n < g->from || r <= g->most + g->noise)
             continue;
@@ -79,7 +79,8 @@ static void print_tables(const contest *in, const char *what, const char *compar
 {
     printf("-- %s\n", in->title);
     print_values(in, what, values, false);
-    print_values(in, what, values, true);
+    if (!in->splits)
+        print_values(in, what, values, true);
     print_ratios(in, compared, values);
 }
 
@@ -87,7 +88,8 @@ void print_times(const contest *in, const table times)
 {
     print_tables(in, "ns a ", "time: ", times);
     for (size_t g = 0; g < GOALS; g++)
-        print_goal(in, &in->goals[g], times);
+        if (in->goals[g].most > 0)
+            print_goal(in, &in->goals[g], times);
     putchar('\n');
 }
 

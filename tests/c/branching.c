@@ -1,4 +1,4 @@
-/* Samplers that branch on the words: what tests/machine_code must find out when it counts instructions. */
+/* Samplers that branch on the words, and a split that branches on the bytes: what tests/machine_code must find out when it counts instructions. */
 #include "tinplateau.h"
 
 static tp_answer branch(const uint16_t *words, size_t words_len, uint16_t *out)
@@ -22,4 +22,14 @@ tp_answer tp_sample_polynomial(size_t n, size_t k, uint16_t q, size_t m, const u
 {
     (void)n, (void)k, (void)q, (void)m, (void)x, (void)x_len, (void)y, (void)y_len, (void)out_len, (void)work, (void)work_len;
     return branch(words, words_len, out);
+}
+
+tp_answer tp_split_noise(size_t n, size_t set, const uint8_t *bytes, size_t bytes_len, uint16_t *x, size_t x_len, uint16_t *y, size_t y_len)
+{
+    (void)set, (void)x_len, (void)y, (void)y_len;
+    for (size_t i = 0; i < bytes_len; i++) {
+        if (bytes[i] % 2 == 1)
+            x[0] = bytes[i];
+    }
+    return (tp_answer){0, TP_NOISE_SHARES(n)};
 }

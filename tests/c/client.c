@@ -21,7 +21,7 @@ static tp_string open_string(size_t n, size_t k, const uint16_t *shares)
     return string.opened;
 }
 
-static tp_residue open_residue(size_t n, uint16_t q, const uint16_t *shares)
+tp_residue open_residue(size_t n, uint16_t q, const uint16_t *shares)
 {
     lent buffer = lend((list){shares, n}, 0);
     tp_opened_residue residue = tp_open_residue(n, q, WORDS(buffer));
@@ -76,6 +76,7 @@ static void run_pass(enum pass next)
     sample_all_sizes();
     start_cases();
     polynomial_cases();
+    noise_cases();
     lesson_cases();
     size_cases();
 }

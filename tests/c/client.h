@@ -40,6 +40,16 @@ struct sample_case {
     list shares;
 };
 
+/* A call of tp_split_noise, with so many words in x and y, and what it is to answer and write. Bytes that are NULL are not given. */
+struct noise_case {
+    int line;
+    size_t n, set;
+    const uint8_t *bytes;
+    size_t len, x, y;
+    tp_answer answer;
+    const uint16_t *x_shares, *y_shares;
+};
+
 /* A call that writes a text of a lesson file. */
 typedef tp_answer text_call(const uint8_t *file, size_t file_len, uint16_t *words, size_t words_len, uint8_t *text, size_t text_len);
 
@@ -57,6 +67,11 @@ void mask(const struct mask_case *c, size_t spare, uint16_t shares[SHARES]);
 size_t convert_bit(const struct bit_case *c, origin from, size_t spare, uint16_t shares[SHARES]);
 size_t sample(const struct sample_case *c, origin from, size_t spare, uint16_t shares[SHARES]);
 void sample_polynomial(size_t m, const struct sample_case *c, size_t spare, uint16_t *shares);
+/* The same with what the case has room for. The shares are given. */
+void split_noise(const struct noise_case *c);
+
+/* Opens n shares, which are fit for it. */
+tp_residue open_residue(size_t n, uint16_t q, const uint16_t *shares);
 
 /* The shares begin with those expected. */
 void check_shares(const uint16_t *shares, list expected);
@@ -69,6 +84,7 @@ void conversion_cases(void);
 void sampler_cases(void);
 void start_cases(void);
 void polynomial_cases(void);
+void noise_cases(void);
 void lesson_cases(void);
 void size_cases(void);
 

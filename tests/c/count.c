@@ -1,5 +1,5 @@
-/* One call: count tp_sample 1 n k q input, or count tp_sample_polynomial m n k q input. Input 0 is all zeros, 1 all largest values, and another
- * number a seed. A sample starts behind words of any value. */
+/* One call: count tp_sample 1 n k q input, count tp_sample_polynomial m n k q input, or count tp_split_noise 256 n k 3329 input. Input 0 is all
+ * zeros, 1 all largest values, and another number a seed. A sample starts behind words of any value. */
 #include "seeded.h"
 #include "tinplateau.h"
 
@@ -7,9 +7,9 @@
 #include <stdlib.h>
 #include <string.h>
 
-enum { SHARES = 8, ROWS = 32, SAMPLE_WORDS = ROWS * SHARES * (SHARES - 1), MOST = 3, START = 5 };
+enum { SHARES = 8, ROWS = 32, SAMPLE_WORDS = ROWS * SHARES * (SHARES - 1), MOST = 3, START = 5, NOISE = 256 };
 
-static uint16_t x[MOST * SHARES], y[MOST * SHARES], words[START + MOST * SAMPLE_WORDS], out[MOST * SHARES], work[ROWS * SHARES];
+static uint16_t x[NOISE * SHARES], y[NOISE * SHARES], words[START + MOST * SAMPLE_WORDS], out[MOST * SHARES], work[ROWS * SHARES];
 
 static void make(uint16_t *list, size_t len, uint32_t bound, unsigned long input)
 {
@@ -21,6 +21,20 @@ static void make(uint16_t *list, size_t len, uint32_t bound, unsigned long input
     }
 }
 
+/* Sets 1 and 2 have a k of 2 and 3. */
+static int count_split(size_t m, size_t n, size_t k, uint16_t q, unsigned long input)
+{
+    static uint8_t bytes[TP_NOISE_BYTES(SHARES, 3)];
+    size_t len = TP_NOISE_BYTES(n, k), shares = TP_NOISE_SHARES(n);
+    if (m != NOISE || n > SHARES || k < 2 || k > 3 || q != 3329)
+        return EXIT_FAILURE;
+    make(words, len, 1u << 8, input);
+    for (size_t i = 0; i < len; i++)
+        bytes[i] = (uint8_t)words[i];
+    tp_answer answer = tp_split_noise(n, k - 1, bytes, len, x, shares, y, shares);
+    return answer.code == 0 && answer.value == shares ? EXIT_SUCCESS : EXIT_FAILURE;
+}
+
 int main(int argc, char **argv)
 {
     if (argc != 7)
@@ -29,6 +43,8 @@ int main(int argc, char **argv)
     size_t shares = m * n, used = m * 2 * k * n * (n - 1);
     uint16_t q = (uint16_t)strtoul(argv[5], NULL, 10);
     unsigned long input = strtoul(argv[6], NULL, 10);
+    if (strcmp(argv[1], "tp_split_noise") == 0)
+        return count_split(m, n, k, q, input);
     if (m > MOST || n > SHARES || 2 * k > ROWS)
         return EXIT_FAILURE;
     make(x, shares, 1u << k, input);

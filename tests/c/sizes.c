@@ -50,6 +50,29 @@ static void polynomial_unfit(size_t m)
     polynomial_zeros(2, 1, m, shares, TP_POLYNOMIAL_WORDS(2, 1, m), shares, (tp_answer){TP_COEFFICIENT_COUNT, 0});
 }
 
+/* Noise of zeros. */
+static void noise_zeros(size_t n, size_t set, size_t bytes, size_t x, size_t y, tp_answer answer)
+{
+    split_noise(&(struct noise_case)CASE(n, set, (const uint8_t *)zeros, bytes, x, y, answer, zeros, zeros));
+}
+
+static void noise_sizes(size_t n, size_t set)
+{
+    size_t bytes = TP_NOISE_BYTES(n, tp_parameter_set(set).k), shares = TP_NOISE_SHARES(n);
+    CHECK(shares == TP_POLYNOMIAL_SHARES(n, TP_MAX_COEFFICIENTS));
+    noise_zeros(n, set, bytes, shares, shares, (tp_answer){TP_ACCEPTED, shares});
+    noise_zeros(n, set, bytes - 1, shares, shares, (tp_answer){TP_NOISE_LENGTH, 0});
+    noise_zeros(n, set, bytes + 1, shares, shares, (tp_answer){TP_NOISE_LENGTH, 0});
+    noise_zeros(n, set, bytes, shares - 1, shares, (tp_answer){TP_OUTPUT_ROOM, 0});
+    noise_zeros(n, set, bytes, shares, shares - 1, (tp_answer){TP_OUTPUT_ROOM, 0});
+}
+
+static void noise_unfit(size_t n, size_t set, uint32_t code)
+{
+    size_t shares = TP_NOISE_SHARES(n);
+    noise_zeros(n, set, TP_NOISE_BYTES(n, 2), shares, shares, (tp_answer){code, 0});
+}
+
 static void convert_sizes(size_t n)
 {
     uint16_t out[TP_MAX_SHARES];
@@ -66,6 +89,8 @@ static void all_sizes(void)
 {
     for (size_t n = TP_MIN_SHARES; n <= TP_MAX_SHARES; n++) {
         convert_sizes(n);
+        noise_sizes(n, 1);
+        noise_sizes(n, 2);
         for (size_t k = TP_MIN_BITS; k <= TP_MAX_BITS; k++) {
             sample_sizes(n, k);
             polynomial_sizes(n, k, TP_MIN_COEFFICIENTS + (n + k) % 3);
@@ -80,12 +105,17 @@ static void limits(void)
     CHECK(TP_SAMPLE_WORDS(TP_MAX_SHARES, TP_MAX_BITS) == TP_MAX_WORDS);
     CHECK(TP_BIT_WORDS(1 + 2) == 6 && TP_SAMPLE_WORDS(1 + 1, 1 + 2) == 12 && TP_SAMPLE_WORK(1 + 1, 1 + 2) == 12 && TP_TEXT_ROOM(1 + 1) == 51);
     CHECK(TP_POLYNOMIAL_SHARES(1 + 1, 1 + 2) == 6 && TP_POLYNOMIAL_WORDS(1 + 1, 1 + 2, 1 + 1) == 24);
+    CHECK(TP_NOISE_BYTES(1 + 1, 1 + 2) == 384 && TP_NOISE_SHARES(1 + 1) == 512);
     sample_zeros(TP_MIN_SHARES - 1, 1, TP_MAX_WORDS, 0, work, (tp_answer){TP_SHARE_COUNT, 0});
     sample_zeros(TP_MAX_SHARES + 1, 1, TP_MAX_WORDS, 0, work, (tp_answer){TP_SHARE_COUNT, 0});
     sample_zeros(2, TP_MIN_BITS - 1, TP_MAX_WORDS, 0, work, (tp_answer){TP_STRING_LENGTH, 0});
     sample_zeros(2, TP_MAX_BITS + 1, TP_MAX_WORDS, 0, work, (tp_answer){TP_STRING_LENGTH, 0});
     polynomial_unfit(TP_MIN_COEFFICIENTS - 1);
     polynomial_unfit(TP_MAX_COEFFICIENTS + 1);
+    noise_unfit(TP_MIN_SHARES - 1, 1, TP_SHARE_COUNT);
+    noise_unfit(TP_MAX_SHARES + 1, 1, TP_SHARE_COUNT);
+    noise_unfit(2, 0, TP_SET_NUMBER);
+    noise_unfit(2, 3, TP_NOISE_SET);
 }
 
 /* The text of a file of so many zero bytes ends in this line. With one byte, or one word, less of room the call is refused. */

@@ -70,9 +70,9 @@ module _ (m n : ℕ) (f : ℕ → ℕ → ℕ) (l : List ℕ) where
   unfolding columns
   columns-none = refl
 
-  pub columns-next : (j : ℕ) (s : List ℕ) → s ≡ columns m n f j l → stored (λ t. t * n + j) (λ t. f t j) m s ≡ columns m n f (j + 1) l
+  pub columns-next : (j : ℕ) (s t : List ℕ) → s ≡ columns m n f j l → t ≡ stored (λ t. t * n + j) (λ t. f t j) m s → t ≡ columns m n f (j + 1) l
   unfolding columns
-  columns-next j s e = rw (e, add-one j)
+  columns-next j s t e d = rw (d, e, add-one j)
 
   pub length-columns : (j : ℕ) → length (columns m n f j l) ≡ length l
   unfolding columns

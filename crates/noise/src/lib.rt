@@ -41,10 +41,10 @@ fn store_group(group: u32, n: usize, k: usize, first: usize, x: &mut [u16], y: &
     let mut rest = group;
     for c in 0..4 {
         let p = first + c * n;
+        let above = rest >> k;
         x[p] = low_bits(rest, k);
-        rest = rest >> k;
-        y[p] = low_bits(rest, k);
-        rest = rest >> k;
+        y[p] = low_bits(above, k);
+        rest = above >> k;
     }
 }
 

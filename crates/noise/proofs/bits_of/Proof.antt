@@ -1,3 +1,4 @@
+-- The set that the answer reads as.
 use mathlib.Core.Path.{sym, ap, _∙_}
 use Rattle.binomial.specs.declared.ParameterSet.{ParameterSet}
 use Rattle.binomial.specs.Answers.{setReading}

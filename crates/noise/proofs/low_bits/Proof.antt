@@ -1,3 +1,4 @@
+-- A mask of k ones keeps the remainder by 2 ^ k.
 use mathlib.Core.Path.{_≡_, _∙_}
 use Prim.Native.Nat.{ℕ, _-_, _*_, _%_, _^_, _≤_, _<_}
 use native.Mathlib.Nat as N

@@ -1,4 +1,5 @@
-use mathlib.Core.Path.{ap, ap₂, _∙_}
+-- The checks' verdict; a refusal comes before anything is written, and behind the checks there is room for all words.
+use mathlib.Core.Path.{_≡_, ap, _∙_}
 use mathlib.Core.List.{List}
 use Prim.Native.Nat.{ℕ, _*_}
 use native.Mathlib.Omega.{arith}
@@ -14,6 +15,10 @@ use Rattle.noise.proofs.split_noise.Tie as tie
 
 fit : (c : tie.After-enum-told) → let a = c .before .before .before .before .before .before .args in Noise (a .n) (a .set) (a .bytes .now) (a .x .now) (a .y .now)
 fit c = let a = c .before .before .before .before .before .before .args in noise (a .n) (a .set) (a .bytes .now) (a .x .now) (a .y .now) (checks-hold _ _ (c .before .before .check-noise .ensures) (c .enum-told .given .1))
+
+-- with the k of the set
+written : (n k k′ : ℕ) (bytes x y x′ y′ : List ℕ) → k ≡ k′ → x′ ≡ overwrite x 0 (noiseShares xWord n k bytes) → y′ ≡ overwrite y 0 (noiseShares yWord n k bytes) → targets x′ y′ ≡ targets (overwrite x 0 (noiseShares xWord n k′ bytes)) (overwrite y 0 (noiseShares yWord n k′ bytes))
+written n k k′ bytes x y x′ y′ e d h = rw (d, h, e)
 
 check-noise-requires : tie.Need-check-noise-requires
 check-noise-requires c κs = search needs
@@ -52,8 +57,7 @@ returns-2 c =
     let a = c .before .before .before .before .before .before .before .before .before .before .before .before .before .before .args in
     let e = c .before .before .before .before .before .before .before .bits-of .ensures in
     let s = c .before .before .before .before .split-strings .ensures in
-    ap₂ (λ (x y : List ℕ). outcome (Done (256 * a .n)) (targets x y)) (s .0 ∙ ap (λ (k : ℕ). overwrite (a .x .now) 0 (noiseShares xWord (a .n) k (a .bytes .now))) e)
-    (s .1 ∙ ap (λ (k : ℕ). overwrite (a .y .now) 0 (noiseShares yWord (a .n) k (a .bytes .now))) e)
+    ap (outcome (Done (256 * a .n))) (written (a .n) _ _ (a .bytes .now) (a .x .now) (a .y .now) _ _ e (s .0) (s .1))
     ∙ settles-accepted _ _ (c .before .before .before .before .before .before .before .before .before .before .check-noise .ensures) _ _ _ (c .before .before .before .before .before .before .before .before .enum-told .given .1)
 
 pub split-noise-spec : {M : Type 1} → statement M

@@ -1,3 +1,4 @@
+-- Group after group: four words more are stored in each list.
 use mathlib.Core.Path.{_≡_, ap, _∙_}
 use mathlib.Core.List.{List}
 use Prim.Native.Nat.{ℕ, _+_, _*_, _-_, _/_, _%_, _^_, _≤_, _<_}
@@ -19,15 +20,12 @@ abbrev μ-loop : tie.MeasureT-loop
 μ-loop bytes n k i x₀ y₀ string g₀ x y g = 64 - g
 
 -- the numbers that the code computes are small
-record Small (n k i : ℕ) : Type 0 where
-  string : i * (64 * k) ≤ 7 * 192
-
-small : (c : tie.Start Inv-loop μ-loop) → Small (c .args .n) (c .args .k) (c .args .i)
-small c =
+string : (c : tie.Start Inv-loop μ-loop) → c .args .i * (64 * c .args .k) ≤ 7 * 192
+string c =
     let p = c .pre in
     let i : c .args .i ≤ 7 = omega arith in
     let k : 64 * c .args .k ≤ 192 = omega arith in
-    record { string = N.mul-le-mul i k }
+    N.mul-le-mul i k
 
 record Group (n k g : ℕ) : Type 0 where
   first : g * k ≤ 63 * 3
@@ -61,7 +59,7 @@ mul-string : tie.Need-mul-string Inv-loop μ-loop
 mul-string c = omega (arith, c .before .before .before .pre .2)
 
 mul-string-2 : tie.Need-mul-string-2 Inv-loop μ-loop
-mul-string-2 c = omega (arith, small (c .before .before .before) .string)
+mul-string-2 c = omega (arith, string (c .before .before .before))
 
 loop-holds : tie.Need-loop-holds Inv-loop μ-loop
 loop-holds c = (omega arith, stored-none _ _ _, stored-none _ _ _)
@@ -70,7 +68,7 @@ mul-read-group : tie.Need-mul-read-group Inv-loop μ-loop
 mul-read-group c = omega (arith, group c .first)
 
 add-read-group : tie.Need-add-read-group Inv-loop μ-loop
-add-read-group c = omega (arith, small (c .before .before .before .before .before) .string, group c .first)
+add-read-group c = omega (arith, string (c .before .before .before .before .before), group c .first)
 
 read-group-requires : tie.Need-read-group-requires Inv-loop μ-loop
 read-group-requires c κs =

@@ -1,3 +1,4 @@
+-- Column after column; all columns are all rows.
 use mathlib.Core.Path.{_≡_, ap, _∙_}
 use mathlib.Core.List.{List}
 use Prim.Native.Nat.{ℕ, _*_, _-_, _≤_}
@@ -44,9 +45,10 @@ loop-less c = search needs
 
 loop-again : tie.Need-loop-again Inv-loop μ-loop
 loop-again c =
+    let a = c .before .before .before .before .before .before .before .before .before .before .before .before .args in
     let l = c .before .before .before .before .before .before .before .before .loop in
     let e = c .before .before .before .before .split-string .ensures in
-    (omega arith, e .0 ∙ columns-next 256 _ _ _ (l .i) (l .x) (l .inv .1), e .1 ∙ columns-next 256 _ _ _ (l .i) (l .y) (l .inv .2))
+    (omega arith, columns-next 256 (a .n) _ (a .x .now) (l .i) (l .x) _ (l .inv .1) (e .0), columns-next 256 (a .n) _ (a .y .now) (l .i) (l .y) _ (l .inv .2) (e .1))
 
 same-length : tie.Need-same-length Inv-loop μ-loop
 same-length c = x-length (c .before)

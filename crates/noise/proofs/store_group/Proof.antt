@@ -1,3 +1,4 @@
+-- Word after word; what is left of the group is shifted down.
 use mathlib.Core.Path.{_≡_, refl, sym, ap, _∙_}
 use Prim.Native.Nat.{ℕ, _+_, _*_, _-_, _/_, _%_, _^_, _≤_}
 use native.Mathlib.Nat as N
@@ -29,11 +30,8 @@ inside c = N.mul-le-mul (omega arith) (N.le-refl _)
 whole : (group k : ℕ) → group ≡ group / 2 ^ (2 * k * 0)
 whole group k = rw (N.mul-zero (2 * k)) (sym (N.div-one group))
 
-behind : (group k c rest : ℕ) → rest ≡ group / 2 ^ (2 * k * c) → (rest / 2 ^ k ≡ group / 2 ^ (2 * k * c + k)) × (rest / 2 ^ k / 2 ^ k ≡ group / 2 ^ (2 * k * (c + 1)))
-behind group k c rest e =
-    let y : rest / 2 ^ k ≡ group / 2 ^ (2 * k * c + k) = ap (λ (v : ℕ). v / 2 ^ k) e ∙ shr-shr group (2 * k * c) k in
-    let s : 2 * k * c + k + k ≡ 2 * k * (c + 1) = omega arith in
-    (y, ap (λ (v : ℕ). v / 2 ^ k) y ∙ shr-shr group (2 * k * c + k) k ∙ ap (λ (s : ℕ). group / 2 ^ s) s)
+behind : (group k s rest : ℕ) → rest ≡ group / 2 ^ s → rest / 2 ^ k ≡ group / 2 ^ (s + k)
+behind group k s rest e = ap (λ (v : ℕ). v / 2 ^ k) e ∙ shr-shr group s k
 
 loop-holds : tie.Need-loop-holds Inv-loop μ-loop
 loop-holds c = (omega arith, whole _ _, stored-none _ _ _, stored-none _ _ _)
@@ -44,6 +42,12 @@ mul-p c = omega (arith, inside c, c .before .before .before .before .pre)
 add-p : tie.Need-add-p Inv-loop μ-loop
 add-p c = omega (arith, inside c, c .before .before .before .before .pre)
 
+cast-above : tie.Need-cast-above Inv-loop μ-loop
+cast-above c = search needs
+
+shr-above : tie.Need-shr-above Inv-loop μ-loop
+shr-above c = search needs
+
 low-bits-requires : tie.Need-low-bits-requires Inv-loop μ-loop
 low-bits-requires c κs = c .before .before .before .before .pre .1
 
@@ -52,12 +56,6 @@ mul-x c = omega (arith, inside (c .before), c .before .before .before .before .b
 
 slice-write-x : tie.Need-slice-write-x Inv-loop μ-loop
 slice-write-x c = omega (arith, inside (c .before), c .before .before .before .before .before .pre, x-length (c .before .before))
-
-cast-rest : tie.Need-cast-rest Inv-loop μ-loop
-cast-rest c = search needs
-
-shr-rest : tie.Need-shr-rest Inv-loop μ-loop
-shr-rest c = search needs
 
 low-bits-requires-2 : tie.Need-low-bits-requires-2 Inv-loop μ-loop
 low-bits-requires-2 c κs = c .before .before .before .before .before .pre .1
@@ -68,11 +66,11 @@ mul-y c = omega (arith, inside (c .before .before), c .before .before .before .b
 slice-write-y : tie.Need-slice-write-y Inv-loop μ-loop
 slice-write-y c = omega (arith, inside (c .before .before), c .before .before .before .before .before .before .pre, y-length (c .before .before .before))
 
-cast-rest-2 : tie.Need-cast-rest-2 Inv-loop μ-loop
-cast-rest-2 c = search needs
+cast-rest : tie.Need-cast-rest Inv-loop μ-loop
+cast-rest c = search needs
 
-shr-rest-2 : tie.Need-shr-rest-2 Inv-loop μ-loop
-shr-rest-2 c = search needs
+shr-rest : tie.Need-shr-rest Inv-loop μ-loop
+shr-rest c = search needs
 
 add-c : tie.Need-add-c Inv-loop μ-loop
 add-c c = search needs
@@ -84,11 +82,12 @@ loop-again : tie.Need-loop-again Inv-loop μ-loop
 loop-again c =
     let l = c .before .before .before .loop in
     let a = c .before .before .before .before .before .before .args in
-    let s = behind (a .group) (a .k) (l .c) (l .rest) (l .inv .1) in (
+    let above = behind (a .group) (a .k) (2 * a .k * l .c) (l .rest) (l .inv .1) in
+    let s : 2 * a .k * l .c + a .k + a .k ≡ 2 * a .k * (l .c + 1) = omega arith in (
       omega arith,
-      s .1,
+      behind (a .group) (a .k) (2 * a .k * l .c + a .k) (l .rest / 2 ^ a .k) above ∙ ap (λ (s : ℕ). a .group / 2 ^ s) s,
       stored-next _ _ _ (l .c) _ _ (l .x) (l .inv .2) refl (c .before .low-bits .ensures ∙ ap (λ (v : ℕ). v % 2 ^ a .k) (l .inv .1)),
-      stored-next _ _ _ (l .c) _ _ (l .y) (l .inv .3) refl (c .low-bits2 .ensures ∙ ap (λ (v : ℕ). v % 2 ^ a .k) (s .0)),
+      stored-next _ _ _ (l .c) _ _ (l .y) (l .inv .3) refl (c .low-bits2 .ensures ∙ ap (λ (v : ℕ). v % 2 ^ a .k) above),
     )
 
 same-length : tie.Need-same-length Inv-loop μ-loop
@@ -112,16 +111,16 @@ store-group-spec =
     loop-holds
     mul-p
     add-p
+    cast-above
+    shr-above
     low-bits-requires
     mul-x
     slice-write-x
-    cast-rest
-    shr-rest
     low-bits-requires-2
     mul-y
     slice-write-y
-    cast-rest-2
-    shr-rest-2
+    cast-rest
+    shr-rest
     add-c
     loop-less
     loop-again
