@@ -3,6 +3,7 @@
 use crate::calls::{centre, coefficients, convert_bit, mask, open_residue, open_string, parameter_set, sample, weight_difference, Verdict};
 use crate::lent::{guarded, unguarded, GUARDS};
 use crate::lesson::{lesson, MOST_BYTES, MOST_WORDS};
+use crate::noise::split;
 use crate::show::{difference, hex};
 use crate::text::Text;
 
@@ -17,11 +18,12 @@ pub enum Function {
     ConvertBit,
     Sample,
     SamplePolynomial,
+    SplitNoise,
     LessonText,
     ReportText,
 }
 
-pub const FUNCTIONS: [Function; 11] = [
+pub const FUNCTIONS: [Function; 12] = [
     Function::Mask,
     Function::OpenString,
     Function::OpenResidue,
@@ -31,6 +33,7 @@ pub const FUNCTIONS: [Function; 11] = [
     Function::ConvertBit,
     Function::Sample,
     Function::SamplePolynomial,
+    Function::SplitNoise,
     Function::LessonText,
     Function::ReportText,
 ];
@@ -74,6 +77,7 @@ impl Function {
                 let refusals = &[(1, 0), (2, 0), (3, 0), (23, 0), (4, 0), (5, 0), (6, 2_047), (7, 2_047), (8, 0), (9, 458_751), (10, 0), (11, 0)];
                 form("tp_sample_polynomial", &["n", "k", "q", "m"], &["x", "y", "words", "out", "work"], refusals)
             }
+            Function::SplitNoise => form("tp_split_noise", &["n", "set"], &["bytes", "x", "y"], &[(1, 0), (22, 0), (24, 0), (25, 0), (10, 0)]),
             Function::LessonText => form("tp_lesson_text", &[], &["file", "words", "text"], &[(8, 0), (10, 0)]),
             Function::ReportText => form("tp_report_text", &[], &["file", "words", "text"], &[(8, 0), (10, 0)]),
         }
@@ -194,6 +198,7 @@ impl Call {
             (Function::ConvertBit, &[n, q, start], [bits, words, out]) => counted(convert_bit(n, q, bits, words, start, out)),
             (Function::Sample, &[n, k, q, start], [x, y, words, out, work]) => counted(sample([n, k, q], [x, y], words, start, out, work)),
             (Function::SamplePolynomial, &[n, k, q, m], [x, y, words, out, work]) => counted(coefficients([n, k, q, m], [x, y], words, 0, out, work)),
+            (Function::SplitNoise, &[n, set], [bytes, x, y]) => counted(split(n, set, bytes, x, y)),
             (function, [], [file, words, out]) => {
                 let text = function.text().expect("a function that takes a file");
                 counted(write_text(text, file, words, out))
@@ -211,7 +216,7 @@ impl Call {
             text += &format!(" {name} {number}");
         }
         for (name, list) in form.lists.iter().zip(&self.lists) {
-            let elements = if *name == "file" { hex(&bytes(list)) } else { some(list) };
+            let elements = if ["file", "bytes"].contains(name) { hex(&bytes(list)) } else { some(list) };
             text += &format!("\n  {name}, {} elements:{elements}", list.len());
         }
         text

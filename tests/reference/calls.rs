@@ -4,7 +4,7 @@
 /// How a call ends: what it answers, or the documents' number and place.
 pub type Verdict<T> = Result<T, (u64, usize)>;
 
-fn ask(holds: bool, number: u64, place: usize) -> Verdict<()> {
+pub fn ask(holds: bool, number: u64, place: usize) -> Verdict<()> {
     if holds {
         Ok(())
     } else {

@@ -1,9 +1,11 @@
 //! A good call, made from a seed, and what can be made wrong with it.
 
 use crate::call::{text_room, Call, Function};
-use crate::calls::{bit_words, words_needed};
+use crate::calls::{bit_words, parameter_set, words_needed};
 use crate::draw::{modulus, random_words, shares, too_high, too_wide, unjudged_word, Dice};
 use crate::lesson::MOST_WORDS;
+use crate::noise;
+use crate::splits;
 use crate::start;
 use crate::text::Text;
 use std::ops::Range;
@@ -17,6 +19,8 @@ pub enum Fault {
     Q,
     M,
     Set,
+    /// A set that is not for noise.
+    OtherSet,
     /// A list that must have an exact length has another.
     Length(&'static str),
     /// A list has fewer elements than the call needs.
@@ -107,6 +111,12 @@ pub fn good(dice: &mut Dice, seed: u64, turn: usize, function: Function, [n, k, 
             let lists = vec![x, y, words_lent(dice, q, start, needed[2]), words_room(dice, needed[3]), words_room(dice, needed[4])];
             (vec![n, k, q, if function == Function::Sample { start } else { m }], lists, needed)
         }
+        // Set 1 has k 2, set 2 has k 3.
+        Function::SplitNoise => {
+            let needed = vec![splits::fitting_length(n, k), m * n, m * n];
+            let lists = vec![noise::drawn(dice, needed[0]), words_room(dice, needed[1]), words_room(dice, needed[2])];
+            (vec![n, k - 1], lists, needed)
+        }
         Function::LessonText | Function::ReportText => {
             let (lists, needed) = lesson_lists(dice, seed, turn, function.text().expect("one of two texts"));
             (vec![], lists, needed)
@@ -165,9 +175,39 @@ impl Draft {
         self.set("start", start);
     }
 
+    /// A list that must have an exact length gets another.
+    fn change_length(&mut self, dice: &mut Dice, name: &str) {
+        let (n, k, (list, Range { end, .. })) = (self.n, self.k, self.list(name));
+        let (any, element) = (dice.between(end as u64 + 1, end as u64 + 20) as usize, list.first().copied().unwrap_or(0));
+        let len = if name == "bytes" { splits::unfit_length(dice, n, k) as usize } else { dice.pick(&[end.saturating_sub(1), end + 1, 0, any]) };
+        list.resize(len, element);
+    }
+
+    /// Noise with an unfit n. Where all sizes are 0 or wrap to it, mostly with empty lists.
+    fn spoil_shares_of_noise(&mut self, dice: &mut Dice) {
+        let n = splits::unfit_shares(dice, self.n);
+        self.set("n", n);
+        if n % (1 << 58) == 0 && !dice.one_in(3) {
+            self.call.lists.iter_mut().for_each(Vec::clear);
+        }
+    }
+
+    /// A set that is not for noise, at times with as many bytes as its k asks for.
+    fn choose_other_set(&mut self, dice: &mut Dice) {
+        let set = dice.between(3, 7);
+        self.set("set", set);
+        if dice.one_in(2) {
+            let (k, _) = parameter_set(set).expect("a set of the table");
+            let len = splits::fitting_length(self.n, k) as usize;
+            self.list("bytes").0.resize(len, 0);
+        }
+    }
+
     pub fn spoil(&mut self, dice: &mut Dice, fault: Fault) {
         let (k, q, m) = (self.k, self.q, self.m);
+        let noise = self.call.function == Function::SplitNoise;
         match fault {
+            N if noise && (2..=8).contains(&self.n) => self.spoil_shares_of_noise(dice),
             N if (2..=8).contains(&self.n) => {
                 self.set("n", dice.pick(&[0, 1, 9, 10, 255, 258, 65_538, 1 << 32 | 2, 1 << 63 | 2, u64::MAX - 1, u64::MAX]))
             }
@@ -186,12 +226,10 @@ impl Draft {
                 let any = dice.between(257, 1_000);
                 self.set("m", dice.pick(&[0, 257, any, 1 << 16 | m, 1 << 32 | m, 1 << 62 | m, 1 << 63 | m, u64::MAX - 1, u64::MAX]))
             }
+            Set if noise => self.set("set", splits::unfit_set(dice, k - 1)),
+            OtherSet => self.choose_other_set(dice),
             Set => self.set("number", dice.pick(&[0, 8, 9, 255, 257, 65_537, 1 << 32 | 1, 1 << 63 | 1, u64::MAX])),
-            Length(name) => {
-                let (list, Range { end, .. }) = self.list(name);
-                let (any, element) = (dice.between(end as u64 + 1, end as u64 + 20) as usize, list.first().copied().unwrap_or(0));
-                list.resize(dice.pick(&[end.saturating_sub(1), end + 1, 0, any]), element);
-            }
+            Length(name) => self.change_length(dice, name),
             Short(name) => {
                 let (list, Range { start, end }) = self.list(name);
                 let any = dice.below(end.max(1) as u64) as usize;

@@ -85,6 +85,9 @@ impl Call {
         if let Some(text) = self.function.text() {
             return self.text_of_file(text, layer);
         }
+        if self.function == Function::SplitNoise {
+            return self.split_of_noise(layer);
+        }
         let mut lent: Vec<Lent<u16>> = self.lists.iter().map(|list| layer.lent(list)).collect();
         let answer = match layer {
             Layer::C { .. } => self.through_c(&mut lent),
@@ -152,6 +155,18 @@ impl Call {
             }
             _ => panic!("the inputs of another function"),
         }
+    }
+
+    fn split_of_noise(&self, layer: Layer) -> Outcome {
+        let [n, set] = [0, 1].map(|number| self.numbers[number] as usize);
+        let mut bytes: Lent<u8> = layer.lent(&self.lists[0]);
+        let [mut x, mut y]: [Lent<u16>; 2] = [1, 2].map(|list| layer.lent(&self.lists[list]));
+        let answer = match layer {
+            // As above.
+            Layer::C { .. } => unsafe { tp_split_noise(n, set, bytes.start(), bytes.len(), x.start(), x.len(), y.start(), y.len()).into() },
+            Layer::Slices => count(tinplateau::split_noise(n, set, bytes.list(), x.list_mut(), y.list_mut())),
+        };
+        Outcome { answer, guarded: vec![bytes.whole(), x.whole(), y.whole()] }
     }
 
     fn text_of_file(&self, text: Text, layer: Layer) -> Outcome {

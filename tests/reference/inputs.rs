@@ -5,7 +5,7 @@ use crate::draft::{self, Fault, Fault::*};
 use crate::draw::Dice;
 
 /// The functions, how many calls of each in a round, and their faults in the order of the checks.
-const KINDS: [(Function, usize, &[Fault]); 11] = [
+const KINDS: [(Function, usize, &[Fault]); 12] = [
     (Function::Mask, 12, &[N, K, Wide("value"), Length("masks"), Wide("masks"), Short("out")]),
     (Function::OpenString, 8, &[N, K, Length("shares"), Wide("shares")]),
     (Function::OpenResidue, 8, &[N, Q, Length("shares"), High("shares")]),
@@ -23,6 +23,7 @@ const KINDS: [(Function, usize, &[Fault]); 11] = [
         8,
         &[N, K, Q, M, Length("x"), Length("y"), Wide("x"), Wide("y"), Short("words"), High("words"), Short("out"), Short("work")],
     ),
+    (Function::SplitNoise, 6, &[N, Set, OtherSet, Length("bytes"), Short("x"), Short("y")]),
     (Function::LessonText, 5, &[Short("words"), Short("text")]),
     (Function::ReportText, 5, &[Short("words"), Short("text")]),
 ];
@@ -66,16 +67,17 @@ fn coefficients(dice: &mut Dice) -> u64 {
     }
 }
 
-/// n, k and m. Only the largest polynomial has the last place of a share or word.
+/// n, k and m. Only the largest polynomial has the last place of a share or word. Noise has the k of set 1 or 2.
 fn size(dice: &mut Dice, function: Function, turn: usize, faults: &[Fault]) -> [u64; 3] {
     let (n, k) = if dice.one_in(6) { dice.pick(&[(2, 1), (8, 1), (2, 16), (8, 16)]) } else { (dice.between(2, 8), dice.between(1, 16)) };
+    // The number of a call without faults: they are two of five.
+    let good = (turn / 5 * 2 + turn % 5) as u64;
     match faults {
+        [] if function == Function::SplitNoise => [2 + good % 7, 2 + good / 7 % 2, 256],
+        _ if function == Function::SplitNoise => [n, dice.between(2, 3), 256],
         _ if function != Function::SamplePolynomial => [n, k, 1],
         // One pair of n and k after the other.
-        [] => {
-            let pair = (turn / 5 * 2 + turn % 5) as u64 % 112;
-            [2 + pair % 7, 1 + pair / 7, coefficients(dice)]
-        }
+        [] => [2 + good % 7, 1 + good / 7 % 16, coefficients(dice)],
         [Wide(_)] if dice.one_in(2) => [8, 1, 256],
         [High(_)] if dice.one_in(2) => [8, 16, 256],
         _ => [n, k, coefficients(dice)],

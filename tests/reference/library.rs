@@ -1,7 +1,7 @@
 //! The library, called through its C interface and through the Rust bindings, compared with the second reading of the documents that this
 //! folder holds.
 //!
-//! `library SEED COUNT` compares so many calls made from the seed, and counts the secrecy rule through the library.
+//! `library SEED COUNT` compares so many calls made from the seed, makes the noise of ML-KEM keys, and counts the secrecy rule through the library.
 
 mod call;
 mod calls;
@@ -10,10 +10,13 @@ mod draw;
 mod files;
 mod found;
 mod inputs;
+mod keccak;
+mod key;
 mod kinds;
 mod lent;
 mod lesson;
 mod met;
+mod noise;
 mod polynomial;
 mod report;
 mod report_files;
@@ -21,20 +24,25 @@ mod report_met;
 mod samples;
 mod secrecy;
 mod show;
+mod splits;
 mod start;
 mod tally;
 mod text;
 mod walk;
+mod way;
 
 use call::{bytes, Call, Function, Outcome};
 use draw::Dice;
 use found::Layer;
+use key::Generation;
 use lesson::{lesson, MOST_WORDS};
 use met::Met;
+use noise::Coefficient;
 use std::process::exit;
 use tally::Tally;
 use text::Text;
 use walk::Walk;
+use way::Ways;
 
 /// Fewer made calls than this say too little.
 const FEWEST_CALLS: usize = 100_000;
@@ -45,6 +53,15 @@ const CALLS_TO_A_WALK: usize = 150;
 /// After so many differences the rest is not tried.
 const MOST_DIFFERENCES: usize = 5;
 
+/// Key generations whose noise went all the way, its polynomials, how often these did, and how often a published key followed.
+#[derive(Default)]
+struct Keys {
+    generations: usize,
+    polynomials: usize,
+    ways: usize,
+    published: usize,
+}
+
 struct Comparison {
     seed: u64,
     compared: usize,
@@ -54,13 +71,15 @@ struct Comparison {
     lessons: Tally,
     reports: Tally,
     walks: usize,
+    ways: Ways,
+    keys: Keys,
 }
 
 impl Comparison {
     fn new(seed: u64) -> Comparison {
         let (through_c, through_slices) = (Met::default(), Met::default());
-        let (lessons, reports) = (Tally::new(Text::Lesson), Tally::new(Text::Report));
-        Comparison { seed, compared: 0, differences: 0, through_c, through_slices, lessons, reports, walks: 0 }
+        let (lessons, reports, ways, keys) = (Tally::new(Text::Lesson), Tally::new(Text::Report), Ways::default(), Keys::default());
+        Comparison { seed, compared: 0, differences: 0, through_c, through_slices, lessons, reports, walks: 0, ways, keys }
     }
 
     fn differs(&mut self, call: &Call, text: &str) {
@@ -93,16 +112,14 @@ impl Comparison {
         self.compare(&call).answer.value
     }
 
-    /// The shares of each accepted coefficient open to the weight difference of its opened strings. A sample has one.
-    fn open_coefficients(&mut self, call: &Call, outcome: &Outcome) {
+    /// The shares of each accepted coefficient open to the weight difference of its opened strings. A sample has one. Answers what was opened.
+    fn open_coefficients(&mut self, call: &Call, outcome: &Outcome) -> Vec<Coefficient> {
         let [n, k, q] = <[u64; 3]>::try_from(&call.numbers[..3]).expect("n, k and q");
         let [x, y, shares] = [&call.lists[0], &call.lists[1], outcome.list(3)].map(|list| list.chunks_exact(n as usize));
-        for ((x, y), shares) in x.zip(y).zip(shares) {
-            self.open_sample(call, [n, k, q], [x, y], shares);
-        }
+        x.zip(y).zip(shares).map(|((x, y), shares)| self.open_sample(call, [n, k, q], [x, y], shares)).collect()
     }
 
-    fn open_sample(&mut self, call: &Call, [n, k, q]: [u64; 3], [x, y]: [&[u64]; 2], shares: &[u64]) {
+    fn open_sample(&mut self, call: &Call, [n, k, q]: [u64; 3], [x, y]: [&[u64]; 2], shares: &[u64]) -> Coefficient {
         let strings = [x, y].map(|list| self.value(Function::OpenString, &[n, k], &[list]) as u64);
         let difference = self.value(Function::WeightDifference, &[k, strings[0], strings[1]], &[]);
         let residue = self.value(Function::OpenResidue, &[n, q], &[shares]) as u64;
@@ -110,6 +127,7 @@ impl Comparison {
         if !calls::adds_up(q, [x, y], shares) || centred != difference {
             self.differs(call, &format!("  the shares {shares:?} open to {centred}, not to {difference}"));
         }
+        [strings[0], strings[1], residue]
     }
 
     /// The shares of an accepted masking call open to the value.
@@ -121,12 +139,63 @@ impl Comparison {
         }
     }
 
+    /// What an accepted split wrote, sampled as a polynomial and opened, is what FIPS 203 has for the opened bytes. Answers it.
+    fn go_all_the_way(&mut self, split: &Call, outcome: &Outcome) -> Vec<Coefficient> {
+        let mut dice = Dice::new(self.seed.wrapping_add(2), self.compared as u64);
+        let polynomial = way::polynomial(&mut dice, split, outcome);
+        let sampled = self.compare(&polynomial);
+        let opened = if sampled.answer.code == 0 { self.open_coefficients(&polynomial, &sampled) } else { vec![] };
+        if let Some(text) = way::difference(split, &opened) {
+            self.differs(split, &text);
+        }
+        opened
+    }
+
+    /// The residues of a polynomial whose noise bytes are shared, split, sampled and opened. They are those of the bytes before they were shared.
+    fn residues(&mut self, n: u64, eta: u64, bytes: &[u8]) -> Vec<u64> {
+        let mut dice = Dice::new(self.seed.wrapping_add(3), self.compared as u64);
+        let split = way::split(n, eta - 1, noise::masked(&mut dice, n, bytes));
+        let (before, outcome) = (self.differences, self.compare(&split));
+        let opened = if self.differences == before { self.go_all_the_way(&split, &outcome) } else { vec![] };
+        let residues: Vec<u64> = opened.iter().map(|coefficient| coefficient[2]).collect();
+        if residues != noise::sample_poly_cbd(eta as usize, bytes) {
+            self.differs(&split, "  the polynomial is not that of the bytes before they were shared");
+        }
+        residues
+    }
+
+    /// The noise of a key generation, shared with each n. A published key follows from what is opened.
+    fn make_keys(&mut self, generation: &Generation) {
+        let noise = generation.noise();
+        for n in 2..=8 {
+            let mut residues = Vec::new();
+            for bytes in &noise {
+                residues.push(self.residues(n, generation.eta, bytes));
+                if self.differences > 0 {
+                    return;
+                }
+            }
+            match generation.gives_published_key(&residues) {
+                Some(false) => {
+                    self.differences += 1;
+                    eprintln!("with n {n}, noise of η {} gives another key than the published one", generation.eta);
+                }
+                Some(true) => self.keys.published += 1,
+                None => (),
+            }
+            self.keys.ways += noise.len();
+        }
+        self.keys.generations += 1;
+        self.keys.polynomials += noise.len();
+    }
+
     /// One made call more, and what must hold of an accepted one.
     fn take(&mut self, call: &Call) {
-        let outcome = self.compare(call);
+        let (before, outcome) = (self.differences, self.compare(call));
         match call.function {
-            _ if outcome.answer.code != 0 => (),
-            Function::Sample | Function::SamplePolynomial => self.open_coefficients(call, &outcome),
+            _ if outcome.answer.code != 0 || self.differences > before => (),
+            Function::Sample | Function::SamplePolynomial => drop(self.open_coefficients(call, &outcome)),
+            Function::SplitNoise if self.ways.is_due(call) => drop(self.go_all_the_way(call, &outcome)),
             Function::Mask => self.open_mask(call, &outcome),
             Function::LessonText => count_file(&mut self.lessons, call),
             Function::ReportText => count_file(&mut self.reports, call),
@@ -156,8 +225,19 @@ impl Comparison {
     fn print(&self, made: usize) -> usize {
         println!("library: {made} calls made, {} compared with those that follow from them", self.compared);
         println!("  {} walks through one list of words, by calls that hand the position on", self.walks);
+        let ways = self.ways.print();
         let calls = self.through_c.print("the C functions") + self.through_slices.print("the Rust bindings");
-        calls + self.lessons.print() + self.reports.print()
+        let gaps = ways + calls + self.lessons.print() + self.reports.print();
+        self.keys.print();
+        gaps
+    }
+}
+
+impl Keys {
+    fn print(&self) {
+        let Keys { generations, polynomials, ways, published } = self;
+        println!("library: noise polynomials of {generations} ML-KEM key generations: {polynomials}, shared with each n and opened again: {ways}");
+        println!("  published keys that follow from the opened noise: {published}");
     }
 }
 
@@ -174,6 +254,7 @@ fn agrees(seed: u64, count: usize) -> bool {
         return false;
     }
     report::check_pairs();
+    keccak::check();
     let mut comparison = Comparison::new(seed);
     for number in 0..count {
         comparison.take(&inputs::made(seed, number));
@@ -185,6 +266,7 @@ fn agrees(seed: u64, count: usize) -> bool {
             return false;
         }
     }
+    key::generations().iter().for_each(|generation| comparison.make_keys(generation));
     let gaps = comparison.print(count);
     println!("library: {} differences, {gaps} gaps", comparison.differences);
     comparison.differences + gaps == 0

@@ -2,7 +2,7 @@
 
 use crate::call::{Answer, Call, Function, FUNCTIONS};
 use crate::kinds::{print_gaps, Kinds};
-use crate::{polynomial, start};
+use crate::{polynomial, splits, start};
 use std::collections::{BTreeMap, BTreeSet};
 
 /// A kind of call that is met less often says too little.
@@ -23,6 +23,7 @@ struct Counts {
 fn kinds_to_meet(function: Function) -> Vec<String> {
     match function {
         Function::SamplePolynomial => polynomial::to_meet(),
+        Function::SplitNoise => splits::to_meet(),
         Function::ConvertBit | Function::Sample => start::to_meet(function),
         _ => vec![],
     }
@@ -32,6 +33,7 @@ fn kinds_to_meet(function: Function) -> Vec<String> {
 fn kinds_met(call: &Call, answer: Answer) -> Vec<String> {
     match call.function {
         Function::SamplePolynomial => polynomial::met(call, answer),
+        Function::SplitNoise => splits::met(call, answer),
         Function::ConvertBit | Function::Sample => start::met(call, answer),
         _ => vec![],
     }

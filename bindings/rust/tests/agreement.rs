@@ -38,6 +38,11 @@ fn fitting_polynomial(n: usize, k: usize, m: usize) -> Result<usize, Refusal> {
     polynomial_of([n, k, m], shares, polynomial_words(n, k, m), shares, sample_work(n, k))
 }
 
+/// Noise of zeros split with lists of these lengths.
+fn noise_of(n: usize, set: usize, bytes: usize, x: usize, y: usize) -> Result<usize, Refusal> {
+    split_noise(n, set, &vec![0; bytes], &mut vec![0; x], &mut vec![0; y])
+}
+
 /// A converted bit 0 with lists of these lengths.
 fn bit_of(n: usize, words: usize, start: usize, out: usize) -> Result<usize, Refusal> {
     convert_bit(n, Q, &vec![0; n], &words_from(start, words), start, &mut vec![0; out])
@@ -89,6 +94,36 @@ fn polynomial_sizes_are_exact() {
 }
 
 #[test]
+fn noise_sizes_are_exact() {
+    for set in [1, 2] {
+        let Parameters { k, q } = parameter_set(set).expect("a set of ML-KEM");
+        for n in MIN_SHARES..=MAX_SHARES {
+            let (bytes, shares) = (noise_bytes(n, k), noise_shares(n));
+            assert_eq!((q, shares), (Q, polynomial_shares(n, MAX_COEFFICIENTS)));
+            assert_eq!(noise_of(n, set, bytes, shares, shares), Ok(shares));
+            assert_eq!(noise_of(n, set, bytes, shares + 1, shares + 2), Ok(shares));
+            for other in [0, bytes - 1, bytes + 1, noise_bytes(n, 5 - k)] {
+                assert_eq!(noise_of(n, set, other, shares, shares), refused(Reason::NoiseLength, 0));
+            }
+            assert_eq!(noise_of(n, set, bytes, shares - 1, shares), refused(Reason::OutputRoom, 0));
+            assert_eq!(noise_of(n, set, bytes, shares, shares - 1), refused(Reason::OutputRoom, 0));
+        }
+    }
+}
+
+#[test]
+fn noise_has_two_sets() {
+    let of_set = |set| noise_of(2, set, noise_bytes(2, 3), noise_shares(2), noise_shares(2));
+    assert_eq!([of_set(1), of_set(2)], [refused(Reason::NoiseLength, 0), Ok(noise_shares(2))]);
+    for set in 3..=7 {
+        assert_eq!(of_set(set), refused(Reason::NoiseSet, 0));
+    }
+    for set in [0, 8, usize::MAX] {
+        assert_eq!(of_set(set), refused(Reason::SetNumber, 0));
+    }
+}
+
+#[test]
 fn bit_sizes_are_exact() {
     for n in MIN_SHARES..=MAX_SHARES {
         for start in STARTS {
@@ -109,6 +144,10 @@ fn sizes_of_unfit_numbers_do_not_overflow() {
     assert_eq!([bit_words(usize::MAX), sample_words(usize::MAX, 1), sample_work(usize::MAX, 1)], [usize::MAX; 3]);
     assert_eq!([polynomial_shares(0, 0), polynomial_words(0, 0, 0)], [0; 2]);
     assert_eq!([polynomial_shares(2, usize::MAX), polynomial_words(2, 1, usize::MAX)], [usize::MAX; 2]);
+    assert_eq!([noise_bytes(0, 0), noise_bytes(2, 0), noise_bytes(0, 2), noise_shares(0)], [0; 4]);
+    assert_eq!([noise_bytes(usize::MAX, 1), noise_bytes(1, usize::MAX), noise_shares(usize::MAX)], [usize::MAX; 3]);
+    // 64 times these is above the largest number, and 256 times is too.
+    assert_eq!([noise_bytes(1 << 58, 1), noise_bytes(1, 1 << 58), noise_shares(1 << 58)], [usize::MAX; 3]);
     assert_eq!(text_room(usize::MAX), 45);
 }
 
@@ -116,6 +155,7 @@ fn sizes_of_unfit_numbers_do_not_overflow() {
 fn ranges_are_exact() {
     for n in [MIN_SHARES - 1, MAX_SHARES + 1] {
         assert_eq!(sample_of(n, 1, Q, sample_words(n, 1), 0, n, sample_work(n, 1)), refused(Reason::ShareCount, 0));
+        assert_eq!(noise_of(n, 1, noise_bytes(n, 2), noise_shares(n), noise_shares(n)), refused(Reason::ShareCount, 0));
     }
     for k in [MIN_BITS - 1, MAX_BITS + 1] {
         assert_eq!(sample_of(2, k, Q, sample_words(2, k), 0, 2, sample_work(2, k)), refused(Reason::StringLength, 0));
@@ -169,11 +209,13 @@ fn every_reason_of_a_call_is_met() {
         (centre(3, OpenedResidue(3)).map(drop), 17, Reason::ResidueRange, 0),
         (parameter_set(8).map(drop), 22, Reason::SetNumber, 0),
         (polynomial_of([2, 1, 0], 2, 4, 2, 4).map(drop), 23, Reason::CoefficientCount, 0),
+        (noise_of(2, 3, 256, 512, 512).map(drop), 24, Reason::NoiseSet, 0),
+        (noise_of(2, 1, 255, 512, 512).map(drop), 25, Reason::NoiseLength, 0),
     ]);
     for (found, number, reason, position) in &met {
         assert_eq!((*found, *number), (refused(*reason, *position), reason.number()));
     }
-    assert_eq!(met.len(), 19);
+    assert_eq!(met.len(), 21);
 }
 
 #[test]
@@ -197,10 +239,10 @@ fn every_reason_of_a_file_is_met() {
 
 #[test]
 fn numbers_and_reasons_are_one_to_one() {
-    for number in 1..=23 {
+    for number in 1..=25 {
         assert_eq!(Reason::from_number(number).map(Reason::number), Some(number));
     }
-    assert_eq!([0, 24, u32::MAX].map(Reason::from_number), [None; 3]);
+    assert_eq!([0, 26, u32::MAX].map(Reason::from_number), [None; 3]);
 }
 
 #[test]

@@ -73,7 +73,7 @@ add-read-group c = omega (arith, string (c .before .before .before .before .befo
 read-group-requires : tie.Need-read-group-requires Inv-loop μ-loop
 read-group-requires c κs =
     let s = c .before .before .before .before .before in
-    (s .pre .1, s .pre .2, group-inside (s .args .bytes .now) (s .args .k) (s .args .i) (c .before .loop .g) (c .loop-test .taken) (s .args .n) (s .pre .3) (s .pre .4))
+    (s .pre .1, s .pre .2, omega (arith, group-inside (s .args .bytes .now) (s .args .k) (s .args .i) (c .before .loop .g) (c .loop-test .taken) (s .args .n) (s .pre .3) (s .pre .4)))
 
 mul-store-group : tie.Need-mul-store-group Inv-loop μ-loop
 mul-store-group c = search needs
@@ -88,7 +88,9 @@ store-group-requires : tie.Need-store-group-requires Inv-loop μ-loop
 store-group-requires c κs =
     let p = c .before .before .before .before .before .before .before .before .pre in
     let g = group (c .before .before .before) in
-    (p .0, p .2, omega (arith, g .row), omega (arith, g .last, x-length (c .before .before .before .before)), omega (arith, g .last, y-length (c .before .before .before .before)))
+    let x = x-length (c .before .before .before .before) in
+    let y = y-length (c .before .before .before .before) in
+    (p .0, p .2, omega (arith, g .row), omega (arith, g .last, x), omega (arith, g .last, y))
 
 add-g : tie.Need-add-g Inv-loop μ-loop
 add-g c = search needs
