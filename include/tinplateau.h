@@ -8,8 +8,9 @@
  * and that one which is not const may be written and overlaps no other list of the call.
  *
  * n is the number of shares, 2 to 8; k the number of bits in a string, 1 to 16; q the modulus; m the number of a polynomial's coefficients, 1
- * to 256; start the position in the word list, from 0, of the first word that a call takes. A random word is below q, drawn evenly and apart from
- * all others, and used once. The library makes no random numbers. */
+ * to 256; start the position in the word list, from 0, of the first word that a call takes; set the number of a published parameter set, which has
+ * a k and a q of its own (tp_parameter_set). A random word is below q, drawn evenly and apart from all others, and used once. The library makes no
+ * random numbers. */
 #ifndef TINPLATEAU_H
 #define TINPLATEAU_H
 
@@ -48,8 +49,8 @@ extern "C" {
 #define TP_REPORT_ROOM 1200
 
 /* The random words of a converted bit, and of a sample; the words of a sample's work area, which is a polynomial's too; the shares of a
- * polynomial's x, y and output, each, and its random words; the bytes of shared ML-KEM noise, and the shares of x and y that they are split into,
- * each; the bytes of a lesson's text buffer. They are of type size_t, and not for #if. */
+ * polynomial's x, y and output, each, and its random words; the bytes of shared ML-KEM noise, where k is that of the set, and the shares of x and
+ * y that they are split into, each; the bytes of a lesson's text buffer. They are of type size_t, and not for #if. */
 #ifdef __cplusplus
 #define TP_SIZE(number) static_cast<size_t>(number)
 #else
@@ -91,7 +92,7 @@ enum tp_code {
     TP_SET_NUMBER = 22,        /* no published parameter set has this number */
     TP_COEFFICIENT_COUNT = 23, /* m is not from 1 to 256 */
     TP_NOISE_SET = 24,         /* a published parameter set, but not 1 or 2, which are ML-KEM's */
-    TP_NOISE_LENGTH = 25       /* not n strings of 64k noise bytes */
+    TP_NOISE_LENGTH = 25       /* not n strings of 64 * k noise bytes */
 };
 
 /* Code 0: accepted, and the value is a count, or where a call has a start the position behind its last word. Else a number of enum tp_code, and
@@ -235,12 +236,12 @@ tp_answer tp_sample_polynomial(size_t n, size_t k, uint16_t q, size_t m, const u
                                const uint16_t *words, size_t words_len, uint16_t *out, size_t out_len, uint16_t *work, size_t work_len);
 
 /* Splits shared ML-KEM noise into the x and y shares of 256 coefficients, as tp_sample_polynomial takes them with m = 256 and the k and q of the
- * set. set is 1 or 2 (tp_parameter_set). The bytes are n strings of 64k, one behind the other, whose XOR is what FIPS 203 gives to SamplePolyCBD.
- * Share i of coefficient t, from 0, goes to position tn + i of x and of y, and is read off string i: bit j of x is bit 2tk + j of the string, and
- * bit j of y is bit 2tk + k + j, the lowest bit of each byte first. Opened, coefficient t is then f[t] of SamplePolyCBD. Answers 256n, the words
- * written to each list. Takes no random words.
- * Refuses 1 (n); 22 (no such set); 24 (a set that is not 1 or 2); 25 (not exactly 64kn bytes); 10 (fewer than 256n words in x or in y). Words past
- * 256n keep their content. */
+ * set, which is 1 or 2. The bytes are n strings of 64 * k, one behind the other, whose XOR is what FIPS 203 gives to SamplePolyCBD. Share i of
+ * coefficient t, from 0, goes to position tn + i of x and of y, and is read off string i: bit j of x is bit 2tk + j of the string, and bit j of y
+ * is bit 2tk + k + j, the lowest bit of each byte first. The polynomial's coefficient t, opened, is then f[t] of SamplePolyCBD. Answers 256n, the
+ * words written to each list. Takes no random words.
+ * Refuses 1 (n); 22 (no such set); 24 (a set that is not 1 or 2); 25 (not exactly n * 64 * k bytes); 10 (fewer than 256n words in x or in y). Words
+ * past 256n keep their content. */
 TP_NODISCARD
 tp_answer tp_split_noise(size_t n, size_t set, const uint8_t *bytes, size_t bytes_len, uint16_t *x, size_t x_len, uint16_t *y, size_t y_len);
 

@@ -213,10 +213,10 @@ pub fn sample_polynomial(
 }
 
 /// Splits shared ML-KEM noise into the x and y shares of 256 coefficients, as [`sample_polynomial`] takes them with m = 256 and the k and q of the
-/// set, which is 1 or 2 ([`parameter_set`]). The bytes are n strings of 64k, one behind the other, whose XOR is what FIPS 203 gives to
+/// set, which is 1 or 2 ([`parameter_set`]). The bytes are n strings of 64 * k, one behind the other, whose XOR is what FIPS 203 gives to
 /// SamplePolyCBD. Share i of coefficient t, from 0, goes to position t * n + i of x and of y, and is read off string i: bit j of x is bit
-/// 2tk + j of the string, and bit j of y is bit 2tk + k + j, the lowest bit of each byte first. Opened, coefficient t is then f\[t\] of
-/// SamplePolyCBD. Answers [`noise_shares`], the words written to each list. Takes no random words.
+/// 2tk + j of the string, and bit j of y is bit 2tk + k + j, the lowest bit of each byte first. The polynomial's coefficient t, opened, is then
+/// f\[t\] of SamplePolyCBD. Answers [`noise_shares`], the words written to each list. Takes no random words.
 ///
 /// Refuses, in this order: `ShareCount`; `SetNumber`; `NoiseSet`, for a set that is not 1 or 2; `NoiseLength`, for not exactly [`noise_bytes`];
 /// `OutputRoom`, for fewer than [`noise_shares`] words in x or in y. Words past those keep their content.

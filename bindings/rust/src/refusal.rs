@@ -57,7 +57,7 @@ reasons! {
     22 SetNumber "no published parameter set has this number",
     23 CoefficientCount "m is not from 1 to 256",
     24 NoiseSet "the parameter set is published, but is not 1 or 2, which are ML-KEM's",
-    25 NoiseLength "there are not n strings of 64k noise bytes",
+    25 NoiseLength "there are not n strings of 64 * k noise bytes",
 }
 
 impl Reason {

@@ -53,7 +53,7 @@ pub const fn polynomial_words(n: usize, k: usize, m: usize) -> usize {
     m.saturating_mul(sample_words(n, k))
 }
 
-/// The bytes that [`split_noise`](crate::split_noise) takes: n strings of 64k.
+/// The bytes that [`split_noise`](crate::split_noise) takes with the k of its set: n strings of 64 * k.
 pub const fn noise_bytes(n: usize, k: usize) -> usize {
     k.saturating_mul(64).saturating_mul(n)
 }

@@ -104,7 +104,7 @@ pub const COEFFICIENT_COUNT: u32 = 23;
 // The parameter set is published, but is not 1 or 2, which are ML-KEM's.
 pub const NOISE_SET: u32 = 24;
 
-// There are not n strings of 64k noise bytes.
+// There are not n strings of 64 * k noise bytes.
 pub const NOISE_LENGTH: u32 = 25;
 
 pub fn refuse(code: u32, position: usize) -> Checked

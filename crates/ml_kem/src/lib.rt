@@ -1,1 +1,1 @@
-// No functions: that the calls of noise and polynomial together make the polynomial of FIPS 203 (document 02, A.5).
+// No functions: noise bytes that are split and sampled give the polynomial of FIPS 203 (document 02, A.5), and n - 1 of its shares tell nothing.

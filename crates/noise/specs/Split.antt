@@ -13,7 +13,7 @@ use Rattle.noise.specs.Fips203.{bytesToBits}
 
 -- ---- the shares
 
--- string i of those that stand one after the other: 64k bytes
+-- string i of those that stand one after the other, 64 × k bytes each
 abbrev pub noiseString : ℕ → List ℕ → ℕ → List ℕ
 noiseString k bytes i = block (64 * k) i bytes
 

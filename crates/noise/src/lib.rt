@@ -103,10 +103,10 @@ fn check_noise(n: usize, set: usize, bytes: &[u8], xroom: usize, yroom: usize) -
     Checked::Passed
 }
 
-// Splits n strings of 64k bytes, one after the other, into the x and y shares of 256 coefficients, as sample_polynomial takes them with the k and q
+// Splits n strings of 64 * k bytes, one after the other, into the x and y shares of 256 coefficients, as sample_polynomial takes them with the k and q
 // of the set. Bit j of x in coefficient t is bit 2tk + j of the string, bit j of y is bit 2tk + k + j, the lowest of each byte first; share i comes
 // from string i. Answers 256n, the words written to each list. Positions past 256n keep their content.
-// Refuses 1; 22; 24 (a set that is not 1 or 2); 25 (not exactly 64kn bytes); 10 (for x or y).
+// Refuses 1; 22; 24 (a set that is not 1 or 2); 25 (not exactly n * 64 * k bytes); 10 (for x or y).
 pub fn split_noise(n: usize, set: usize, bytes: &[u8], x: &mut [u16], y: &mut [u16]) -> Answer
     ensures { λ r. ⌜ outcome r (targets (now (x .exit)) (now (y .exit))) ≡ noiseSplit n set (now (bytes .entry)) (now (x .entry)) (now (y .entry)) ⌝ }
 {
