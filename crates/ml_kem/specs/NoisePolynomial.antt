@@ -16,13 +16,13 @@ use Rattle.secrecy.specs.Secrecy.{Full, Indistinguishable}
 use Rattle.sampler.specs.Sampler.{Buffers, workLength}
 use Rattle.sampler.specs.Secrecy.{Room}
 use Rattle.sampler.specs.Accepted.{fit-holds}
-use Rattle.polynomial.specs.Polynomial.{polynomialWords, stringsChecks, polynomialChecks, sampledPolynomial}
+use Rattle.polynomial.specs.Polynomial.{polynomialWords, stringsChecks, sampledPolynomial}
 use Rattle.polynomial.specs.Secrecy.{AlikeBut, PolynomialSecrecy}
-use Rattle.polynomial.specs.Calls.{call-accepted, coefficient-opened}
+use Rattle.polynomial.specs.Calls as polynomial
 use Rattle.polynomial.specs.SecrecyProof.{secrecy}
 use Rattle.noise.specs.Fips203.{samplePolyCBD}
 use Rattle.noise.specs.Split.{openedBytes, setOf, noiseChecks, noiseSplit}
-use Rattle.noise.specs.Calls.{accepted-checks, set-fits, call-shares, call-coefficient}
+use Rattle.noise.specs.Calls as noise
 
 -- the outcome of an accepted polynomial call whose coefficient t opens to f[t]
 pub record Opens (n k q : ℕ) (f : List ℕ) (o : Outcome ℕ Buffers) : Type 0 where
@@ -59,24 +59,24 @@ module _ (n number : ℕ) where
   W = polynomialWords n k 256
 
   checks : (s : AcceptedSplit) → Hold (noiseChecks n number (s .bytes) (length (s .x-before)) (length (s .y-before)))
-  checks s = accepted-checks n number (s .bytes) (s .x-before) (s .y-before) (s .count) (s .answer)
+  checks s = noise.accepted-checks n number (s .bytes) (s .x-before) (s .y-before) (s .count) (s .answer)
 
   strings : (s : AcceptedSplit) → Hold (stringsChecks n k q 256 (xOf s) (yOf s))
   strings s =
       let h = checks s in
-      let f = set-fits n number (s .bytes) (s .x-before) (s .y-before) h in
-      (h .0, (f .0, (f .1 .0, (true-within 1 256 256 (omega arith) (omega arith), call-shares n number (s .bytes) (s .x-before) (s .y-before) h))))
+      let f = noise.set-fits n number (s .bytes) (s .x-before) (s .y-before) h in
+      (h .0, (f .0, (f .1 .0, (true-within 1 256 256 (omega arith) (omega arith), noise.call-shares n number (s .bytes) (s .x-before) (s .y-before) h))))
 
   -- After an accepted split, with any full list of words, the polynomial call is accepted, and opens to SamplePolyCBD of the opened bytes.
   pub noise-polynomial : (s : AcceptedSplit) (words out work : List ℕ) → Full q W words → Room (256 * n) (workLength n k) out work → Opens n k q (samplePolyCBD q k (openedBytes n k (s .bytes))) (sampledNoise s words out work)
   noise-polynomial s words out work full room =
       let h = fit-holds (stringsChecks n k q 256 (xOf s) (yOf s)) 0 W q words (256 * n) (workLength n k) out work (strings s) (full-drawn full) room in
       record {
-        count = ap (λ (o : Outcome ℕ Buffers). o .answer) (call-accepted n k q 256 (xOf s) (yOf s) words out work h);
+        count = ap (λ (o : Outcome ℕ Buffers). o .answer) (polynomial.call-accepted n k q 256 (xOf s) (yOf s) words out work h);
         coefficient = λ t l.
-            coefficient-opened n k q 256 (xOf s) (yOf s) words out work h t l
+            polynomial.coefficient-opened n k q 256 (xOf s) (yOf s) words out work h t l
             ∙ ap₂ (λ (x y : List ℕ). accepted (reduceℤ q (differenceOfWeights (xorAll x) (xorAll y)))) (block-front n _ t 256 l) (block-front n _ t 256 l)
-            ∙ ap accepted (call-coefficient n number (s .bytes) (s .x-before) (s .y-before) (checks s) t l q);
+            ∙ ap accepted (noise.coefficient-opened n number (s .bytes) (s .x-before) (s .y-before) (checks s) t l q);
       }
 
   -- And of two accepted splits, no n - 1 shares of each coefficient tell the one from the other: a one-to-one map of the full lists of words makes

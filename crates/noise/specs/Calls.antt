@@ -5,22 +5,48 @@ use mathlib.Core.List.{List, [], _∷_}
 use Prim.Native.Nat.{ℕ, _+_, _*_, _^_, _<_}
 use borrow.Author.Tests.{eq-eqb}
 use lib.ListN.{length, take, drop}
-use Rattle.residue.specs.Residue.{reduceℤ, EachBelow}
+use Rattle.residue.specs.Residue.{reduceℤ}
 use Rattle.buffers.specs.Overwrite.{overwrite}
 use Rattle.buffers.specs.Laws.{take-front, drop-front}
 use Rattle.buffers.specs.Positions.{at, block}
 use Rattle.buffers.specs.PositionLaws.{table-at}
-use Rattle.buffers.specs.Rows.{length-rows}
 use Rattle.buffers.specs.Blocks.{block-front, block-rows}
-use Rattle.checks.specs.Checks.{Outcome, accepted, verdict, isNone, stringLength, modulusAtLeast, narrow, shareChecks}
+use Rattle.checks.specs.Checks.{Check, Outcome, accepted, verdict, isNone, stringLength, modulusAtLeast, exactly, narrow, shareChecks}
 use Rattle.checks.specs.Laws.{Hold, within-true, each-below-none, accepted-holds, settled-answer, settled-accepted, settled-keeps}
 use Rattle.masking.specs.Sharing.{xorAll}
 use Rattle.binomial.specs.Signed.{differenceOfWeights}
 use Rattle.binomial.specs.SetsFit.{sets-fit}
 use Rattle.noise.specs.Fips203.{samplePolyCBD}
-use Rattle.noise.specs.Split.{noiseString, xWord, yWord, noiseShares, openedBytes, setOf, noiseChecks, Targets, targets, noiseSplit}
+use Rattle.noise.specs.Split.{noiseString, wordAt, xBit, yBit, noiseShares, openedBytes, setOf, noiseChecks, Targets, targets, noiseSplit}
 use Rattle.noise.specs.Accepted.{noise}
-use Rattle.noise.specs.Opened.{x-below, y-below, x-opened, y-opened, coefficient-opened}
+use Rattle.noise.specs.Opened.{length-shares, shares-below, shares-opened, words-difference}
+
+-- A target list after an accepted call: the shares in front, which begin where `first` says, and the rest as it was.
+module _ (n k : ℕ) (bytes : List ℕ) (first : ℕ → ℕ → ℕ) (l : List ℕ) where
+  abbrev target : List ℕ
+  target = overwrite l 0 (noiseShares first n k bytes)
+
+  target-kept : drop (256 * n) target ≡ drop (256 * n) l
+  target-kept = drop-front l (noiseShares first n k bytes) (256 * n) (length-shares n k bytes first)
+
+  target-front : take (256 * n) target ≡ noiseShares first n k bytes
+  target-front = take-front l (noiseShares first n k bytes) (256 * n) (length-shares n k bytes first)
+
+  -- checks 4 and 6, or 5 and 7
+  target-fits : (code : ℕ) → (exactly code (256 * n) (take (256 * n) target) .holds ≡ true) × (narrow code k (take (256 * n) target) .holds ≡ true)
+  target-fits code = rw target-front (eq-eqb _ _ (length-shares n k bytes first), ap isNone (each-below-none (2 ^ k) (noiseShares first n k bytes) 0 (shares-below n k bytes first)))
+
+  module _ (t : ℕ) (h : t < 256) where
+    target-block : block n t target ≡ block n t (noiseShares first n k bytes)
+    target-block = sym (block-front n target t 256 h) ∙ ap (block n t) target-front
+
+    -- share i of coefficient t is read off string i alone
+    pub target-share : (i : ℕ) → i < n → at (block n t target) i ≡ wordAt k (noiseString k bytes i) (first k t)
+    target-share i b = ap (λ (s : List ℕ). at s i) (target-block ∙ block-rows 256 n _ t h) ∙ table-at n _ i b
+
+    -- opened, the coefficient has the bits of the opened bytes
+    pub target-opened : xorAll (block n t target) ≡ wordAt k (openedBytes n k bytes) (first k t)
+    target-opened = ap xorAll target-block ∙ shares-opened n k bytes first t h
 
 module _ (n number : ℕ) (bytes x y : List ℕ) where
   abbrev o : Outcome ℕ Targets
@@ -29,78 +55,58 @@ module _ (n number : ℕ) (bytes x y : List ℕ) where
   abbrev k : ℕ
   k = setOf number .k
 
-  abbrev shares : (ℕ → List ℕ → ℕ → ℕ) → List ℕ
-  shares word = noiseShares word n k bytes
+  abbrev checks : List Check
+  checks = noiseChecks n number bytes (length x) (length y)
 
-  length-shares : (word : ℕ → List ℕ → ℕ → ℕ) → length (shares word) ≡ 256 * n
-  length-shares word = length-rows 256 n _
+  abbrev after : Targets
+  after = targets (target n (setOf number .k) bytes xBit x) (target n (setOf number .k) bytes yBit y)
 
   -- ---- every call, accepted or refused, keeps the positions past 256n
 
-  abbrev after : Targets
-  after = targets (overwrite x 0 (shares xWord)) (overwrite y 0 (shares yWord))
-
   pub x-kept : drop (256 * n) (o .buffers .x) ≡ drop (256 * n) x
   unfolding noiseSplit
-  x-kept = settled-keeps (verdict (noiseChecks n number bytes (length x) (length y)) (256 * n)) (targets x y) after (λ b. drop (256 * n) (b .x)) (drop-front x (shares xWord) (256 * n) (length-shares xWord))
+  x-kept = settled-keeps (verdict checks (256 * n)) (targets x y) after (λ b. drop (256 * n) (b .x)) (target-kept n k bytes xBit x)
 
   pub y-kept : drop (256 * n) (o .buffers .y) ≡ drop (256 * n) y
   unfolding noiseSplit
-  y-kept = settled-keeps (verdict (noiseChecks n number bytes (length x) (length y)) (256 * n)) (targets x y) after (λ b. drop (256 * n) (b .y)) (drop-front y (shares yWord) (256 * n) (length-shares yWord))
+  y-kept = settled-keeps (verdict checks (256 * n)) (targets x y) after (λ b. drop (256 * n) (b .y)) (target-kept n k bytes yBit y)
 
   pub accepted-checks : (count : ℕ) → o .answer ≡ accepted count → Hold (noiseChecks n number bytes (length x) (length y))
   unfolding noiseSplit
-  accepted-checks count e = accepted-holds (256 * n) count (noiseChecks n number bytes (length x) (length y)) (sym (settled-answer _ (targets x y) after) ∙ e)
+  accepted-checks count e = accepted-holds (256 * n) count checks (sym (settled-answer _ (targets x y) after) ∙ e)
 
   -- ---- a call that passes every check
 
   module _ (h : Hold (noiseChecks n number bytes (length x) (length y))) where
-    pub call-accepted : o ≡ record { answer = accepted (256 * n); buffers = after }
+    pub call-accepted : o ≡ record { answer = accepted (256 * n); buffers = targets (overwrite x 0 (noiseShares xBit n (setOf number .k) bytes)) (overwrite y 0 (noiseShares yBit n (setOf number .k) bytes)) }
     unfolding noiseSplit
-    call-accepted = settled-accepted (256 * n) (noiseChecks n number bytes (length x) (length y)) (targets x y) after h
+    call-accepted = settled-accepted (256 * n) checks (targets x y) after h
 
-    pub call-x : take (256 * n) (o .buffers .x) ≡ shares xWord
-    call-x = ap (λ (o : Outcome ℕ Targets). take (256 * n) (o .buffers .x)) call-accepted ∙ take-front x (shares xWord) (256 * n) (length-shares xWord)
+    x-after : o .buffers .x ≡ target n (setOf number .k) bytes xBit x
+    x-after = ap (λ (o : Outcome ℕ Targets). o .buffers .x) call-accepted
 
-    pub call-y : take (256 * n) (o .buffers .y) ≡ shares yWord
-    call-y = ap (λ (o : Outcome ℕ Targets). take (256 * n) (o .buffers .y)) call-accepted ∙ take-front y (shares yWord) (256 * n) (length-shares yWord)
+    y-after : o .buffers .y ≡ target n (setOf number .k) bytes yBit y
+    y-after = ap (λ (o : Outcome ℕ Targets). o .buffers .y) call-accepted
 
     -- checks 2 and 3 of the set
-    pub set-fits : Hold (stringLength k ∷ modulusAtLeast (2 * k + 1) (setOf number .q) ∷ [])
+    pub set-fits : Hold (stringLength (setOf number .k) ∷ modulusAtLeast (2 * setOf number .k + 1) (setOf number .q) ∷ [])
     set-fits = sets-fit number (setOf number) (noise n number bytes x y h .of .published)
 
     -- what was written passes checks 4 to 7
-    pub call-shares : Hold (shareChecks (256 * n) k (take (256 * n) (o .buffers .x)) (take (256 * n) (o .buffers .y)))
+    pub call-shares : Hold (shareChecks (256 * n) (setOf number .k) (take (256 * n) (o .buffers .x)) (take (256 * n) (o .buffers .y)))
     call-shares =
-        rw (call-x, call-y) (eq-eqb _ _ (length-shares xWord), (eq-eqb _ _ (length-shares yWord), (fits 6 _ (x-below n k bytes), (fits 7 _ (y-below n k bytes), tt))))
-      where
-        fits : (code : ℕ) (l : List ℕ) → EachBelow (2 ^ setOf number .k) l → narrow code (setOf number .k) l .holds ≡ true
-        fits code l b = ap isNone (each-below-none (2 ^ setOf number .k) l 0 b)
+        let a = target-fits n k bytes xBit x in
+        let b = target-fits n k bytes yBit y in
+        rw (x-after, y-after) (a 4 .0, (b 5 .0, (a 6 .1, (b 7 .1, tt))))
 
-    -- coefficient t
+    -- coefficient t of x and of y, opened
     module _ (t : ℕ) (l : t < 256) where
-      x-block : block n t (o .buffers .x) ≡ block n t (shares xWord)
-      x-block = sym (block-front n (o .buffers .x) t 256 l) ∙ ap (block n t) call-x
+      pub x-opened : xorAll (block n t (o .buffers .x)) ≡ wordAt (setOf number .k) (openedBytes n (setOf number .k) bytes) (xBit (setOf number .k) t)
+      x-opened = ap (λ (s : List ℕ). xorAll (block n t s)) x-after ∙ target-opened n k bytes xBit x t l
 
-      y-block : block n t (o .buffers .y) ≡ block n t (shares yWord)
-      y-block = sym (block-front n (o .buffers .y) t 256 l) ∙ ap (block n t) call-y
+      pub y-opened : xorAll (block n t (o .buffers .y)) ≡ wordAt (setOf number .k) (openedBytes n (setOf number .k) bytes) (yBit (setOf number .k) t)
+      y-opened = ap (λ (s : List ℕ). xorAll (block n t s)) y-after ∙ target-opened n k bytes yBit y t l
 
-      -- share i is read off string i alone
-      pub x-share : (i : ℕ) → i < n → at (block n t (o .buffers .x)) i ≡ xWord k (noiseString k bytes i) t
-      x-share i b = ap (λ (s : List ℕ). at s i) (x-block ∙ block-rows 256 n _ t l) ∙ table-at n _ i b
-
-      pub y-share : (i : ℕ) → i < n → at (block n t (o .buffers .y)) i ≡ yWord k (noiseString k bytes i) t
-      y-share i b = ap (λ (s : List ℕ). at s i) (y-block ∙ block-rows 256 n _ t l) ∙ table-at n _ i b
-
-      -- opened, it has the bits of the opened bytes
-      pub call-x-opened : xorAll (block n t (o .buffers .x)) ≡ xWord k (openedBytes n k bytes) t
-      call-x-opened = ap xorAll x-block ∙ x-opened n k bytes t l
-
-      pub call-y-opened : xorAll (block n t (o .buffers .y)) ≡ yWord k (openedBytes n k bytes) t
-      call-y-opened = ap xorAll y-block ∙ y-opened n k bytes t l
-
-      -- and its weight difference modulo q is f[t] of SamplePolyCBD
-      pub call-coefficient : (q : ℕ) → reduceℤ q (differenceOfWeights (xorAll (block n t (o .buffers .x))) (xorAll (block n t (o .buffers .y)))) ≡ at (samplePolyCBD q k (openedBytes n k bytes)) t
-      call-coefficient q =
-          ap₂ (λ (x y : List ℕ). reduceℤ q (differenceOfWeights (xorAll x) (xorAll y))) x-block y-block
-          ∙ coefficient-opened n k bytes t l q (within-true 1 16 k (set-fits .0) .1)
+      -- and its weight difference modulo q, which is f[t] of SamplePolyCBD
+      pub coefficient-opened : (q : ℕ) → reduceℤ q (differenceOfWeights (xorAll (block n t (o .buffers .x))) (xorAll (block n t (o .buffers .y)))) ≡ at (samplePolyCBD q (setOf number .k) (openedBytes n (setOf number .k) bytes)) t
+      coefficient-opened q = ap₂ (λ (x y : ℕ). reduceℤ q (differenceOfWeights x y)) x-opened y-opened ∙ words-difference n k bytes q t l (within-true 1 16 k (set-fits .0) .1)

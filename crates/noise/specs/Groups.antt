@@ -11,7 +11,7 @@ use Rattle.buffers.specs.Blocks.{block-at}
 use Rattle.checks.specs.Width.{bit}
 use Rattle.checks.specs.FromBits.{fromBits, from-same, from-append, from-part, from-number}
 use Rattle.noise.specs.Fips203.{bytesToBits}
-use Rattle.noise.specs.Split.{noiseString, wordAt, xWord, yWord}
+use Rattle.noise.specs.Split.{noiseString, wordAt, xBit, yBit}
 use Rattle.noise.specs.BitLaws.{bits-at, are-bits, byte-bit}
 
 -- ---- the bytes of a group
@@ -65,10 +65,10 @@ module _ (bytes : List ℕ) (k i g : ℕ) (h : g < 64) where
       ap (λ (w : ℕ). fromBits w f / 2 ^ s % 2 ^ k) e ∙ from-part k (8 * k - k - s) s f (λ j. are-bits bytes (8 * groupAt k i g + j))
       ∙ from-same k _ _ (λ j n. ap (at (bytesToBits bytes)) (omega arith) ∙ sym (string-bit k bytes i (2 * (4 * g + c) * k + d + j) (omega arith)))
 
-  pub group-x : (c : ℕ) → c < 4 → wordAt (8 * k) bytes (8 * groupAt k i g) / 2 ^ (2 * k * c) % 2 ^ k ≡ xWord k (noiseString k bytes i) (4 * g + c)
+  pub group-x : (c : ℕ) → c < 4 → wordAt (8 * k) bytes (8 * groupAt k i g) / 2 ^ (2 * k * c) % 2 ^ k ≡ wordAt k (noiseString k bytes i) (xBit k (4 * g + c))
   group-x c l = simp N.add-zero at (group-word c 0 l (omega arith))
 
-  pub group-y : (c : ℕ) → c < 4 → wordAt (8 * k) bytes (8 * groupAt k i g) / 2 ^ (2 * k * c + k) % 2 ^ k ≡ yWord k (noiseString k bytes i) (4 * g + c)
+  pub group-y : (c : ℕ) → c < 4 → wordAt (8 * k) bytes (8 * groupAt k i g) / 2 ^ (2 * k * c + k) % 2 ^ k ≡ wordAt k (noiseString k bytes i) (yBit k (4 * g + c))
   group-y c l = group-word c k l (N.le-refl k)
 
   -- the group lies in the list

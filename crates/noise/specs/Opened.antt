@@ -4,11 +4,11 @@ use mathlib.Core.List.{List}
 use Prim.Native.Nat.{ℕ, zero, suc, _+_, _*_, _/_, _%_, _^_, _≤_, _<_}
 use native.Mathlib.Omega.{arith}
 use lib.IntN.{pos, _-ℤ_}
-use lib.ListN.{length-take, List·getD-eq-default, drop}
+use lib.ListN.{length, length-take, List·getD-eq-default, drop}
 use Rattle.residue.specs.Residue.{reduceℤ, EachBelow}
 use Rattle.buffers.specs.Positions.{at, table, block}
 use Rattle.buffers.specs.PositionLaws.{table-same, length-table, table-at, list-table}
-use Rattle.buffers.specs.Rows.{rows-below}
+use Rattle.buffers.specs.Rows.{length-rows, rows-below}
 use Rattle.buffers.specs.Blocks.{block-rows}
 use Rattle.checks.specs.Width.{bit}
 use Rattle.checks.specs.FromBits.{from-same, from-lt}
@@ -17,11 +17,11 @@ use Rattle.masking.specs.Xor.{bit-xorAll, from-xorAll}
 use Rattle.binomial.specs.Signed.{weight, differenceOfWeights}
 use Rattle.binomial.specs.Weight.{weight-bits, bitSum-from}
 use Rattle.noise.specs.Fips203.{bytesToBits, bitsFrom, samplePolyCBD}
-use Rattle.noise.specs.Split.{noiseString, wordAt, xWord, yWord, noiseShares, openedBytes}
+use Rattle.noise.specs.Split.{noiseString, wordAt, xBit, yBit, noiseShares, openedBytes}
 use Rattle.noise.specs.BitLaws.{bits-at, are-bits}
 
 module _ (k : ℕ) (string : List ℕ) (s : ℕ) where
-  pub word-lt : wordAt k string s < 2 ^ k
+  word-lt : wordAt k string s < 2 ^ k
   word-lt = from-lt k _ (λ j. are-bits string (s + j))
 
   weight-word : k ≤ 16 → weight (wordAt k string s) ≡ bitsFrom k (bytesToBits string) s
@@ -48,28 +48,27 @@ module _ (n k : ℕ) (bytes : List ℕ) where
       ∙ ap xorAll (table-same n _ _ (λ i l. sym (bits-at (noiseString k bytes i) p)))
 
   -- and so it is with words
-  pub opened-word : (s : ℕ) → xorAll (table n (λ i. wordAt k (noiseString k bytes i) s)) ≡ wordAt k (openedBytes n k bytes) s
+  opened-word : (s : ℕ) → xorAll (table n (λ i. wordAt k (noiseString k bytes i) s)) ≡ wordAt k (openedBytes n k bytes) s
   opened-word s =
       from-xorAll k n (λ i j. at (bytesToBits (noiseString k bytes i)) (s + j)) (λ i j. are-bits (noiseString k bytes i) (s + j))
       ∙ from-same k _ _ (λ j l. sym (opened-bit (s + j)))
 
-  -- every word has k bits
-  pub x-below : EachBelow (2 ^ k) (noiseShares xWord n k bytes)
-  x-below = rows-below (2 ^ k) 256 n _ (λ t l i m. word-lt k (noiseString k bytes i) (2 * t * k))
+  -- the shares, whose bits begin where `first` says
+  module _ (first : ℕ → ℕ → ℕ) where
+    pub length-shares : length (noiseShares first n k bytes) ≡ 256 * n
+    length-shares = length-rows 256 n _
 
-  pub y-below : EachBelow (2 ^ k) (noiseShares yWord n k bytes)
-  y-below = rows-below (2 ^ k) 256 n _ (λ t l i m. word-lt k (noiseString k bytes i) (2 * t * k + k))
+    -- have k bits
+    pub shares-below : EachBelow (2 ^ k) (noiseShares first n k bytes)
+    shares-below = rows-below (2 ^ k) 256 n _ (λ t l i m. word-lt k (noiseString k bytes i) (first k t))
 
-  module _ (t : ℕ) (h : t < 256) where
-    pub x-opened : xorAll (block n t (noiseShares xWord n k bytes)) ≡ xWord k (openedBytes n k bytes) t
-    x-opened = ap xorAll (block-rows 256 n _ t h) ∙ opened-word (2 * t * k)
+    -- and share a word of the opened bytes
+    pub shares-opened : (t : ℕ) → t < 256 → xorAll (block n t (noiseShares first n k bytes)) ≡ wordAt k (openedBytes n k bytes) (first k t)
+    shares-opened t l = ap xorAll (block-rows 256 n _ t l) ∙ opened-word (first k t)
 
-    pub y-opened : xorAll (block n t (noiseShares yWord n k bytes)) ≡ yWord k (openedBytes n k bytes) t
-    y-opened = ap xorAll (block-rows 256 n _ t h) ∙ opened-word (2 * t * k + k)
-
-    pub coefficient-opened : (q : ℕ) → k ≤ 16 → reduceℤ q (differenceOfWeights (xorAll (block n t (noiseShares xWord n k bytes))) (xorAll (block n t (noiseShares yWord n k bytes)))) ≡ at (samplePolyCBD q k (openedBytes n k bytes)) t
-    unfolding samplePolyCBD
-    coefficient-opened q l =
-        let B = openedBytes n k bytes in
-        ap (reduceℤ q) (ap₂ (λ (x y : ℕ). pos x -ℤ pos y) (ap weight x-opened ∙ weight-word k B (2 * t * k) l) (ap weight y-opened ∙ weight-word k B (2 * t * k + k) l))
-        ∙ sym (table-at 256 _ t h)
+  -- the weight difference of two of these is f[t] of SamplePolyCBD
+  pub words-difference : (q t : ℕ) → t < 256 → k ≤ 16 → reduceℤ q (differenceOfWeights (wordAt k (openedBytes n k bytes) (xBit k t)) (wordAt k (openedBytes n k bytes) (yBit k t))) ≡ at (samplePolyCBD q k (openedBytes n k bytes)) t
+  unfolding samplePolyCBD
+  words-difference q t l m =
+      let B = openedBytes n k bytes in
+      ap (reduceℤ q) (ap₂ (λ (x y : ℕ). pos x -ℤ pos y) (weight-word k B (xBit k t) m) (weight-word k B (yBit k t) m)) ∙ sym (table-at 256 _ t l)

@@ -21,16 +21,16 @@ noiseString k bytes i = block (64 * k) i bytes
 abbrev pub wordAt : ℕ → List ℕ → ℕ → ℕ
 wordAt k string s = fromBits k (λ j. at (bytesToBits string) (s + j))
 
--- coefficient t of a string: bits 2tk to 2tk + k - 1 for x, and the k bits behind them for y
-abbrev pub xWord : ℕ → List ℕ → ℕ → ℕ
-xWord k string t = wordAt k string (2 * t * k)
+-- where the bits of coefficient t begin in a string: those for x, and behind these k those for y
+abbrev pub xBit : ℕ → ℕ → ℕ
+xBit k t = 2 * t * k
 
-abbrev pub yWord : ℕ → List ℕ → ℕ → ℕ
-yWord k string t = wordAt k string (2 * t * k + k)
+abbrev pub yBit : ℕ → ℕ → ℕ
+yBit k t = 2 * t * k + k
 
 -- coefficient after coefficient; share i comes from string i
-abbrev pub noiseShares : (ℕ → List ℕ → ℕ → ℕ) → ℕ → ℕ → List ℕ → List ℕ
-noiseShares word n k bytes = rows 256 n (λ t i. word k (noiseString k bytes i) t)
+abbrev pub noiseShares : (ℕ → ℕ → ℕ) → ℕ → ℕ → List ℕ → List ℕ
+noiseShares first n k bytes = rows 256 n (λ t i. wordAt k (noiseString k bytes i) (first k t))
 
 -- the bytes that n strings share: their XOR, byte by byte
 unfoldable pub openedBytes : ℕ → ℕ → List ℕ → List ℕ
@@ -68,4 +68,4 @@ unfoldable pub noiseSplit : ℕ → ℕ → List ℕ → List ℕ → List ℕ �
 noiseSplit n number bytes x y =
     let k = setOf number .k in
     settled (verdict (noiseChecks n number bytes (length x) (length y)) (256 * n)) (targets x y)
-    (targets (overwrite x 0 (noiseShares xWord n k bytes)) (overwrite y 0 (noiseShares yWord n k bytes)))
+    (targets (overwrite x 0 (noiseShares xBit n k bytes)) (overwrite y 0 (noiseShares yBit n k bytes)))

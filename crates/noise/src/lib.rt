@@ -10,7 +10,7 @@ ghost use Rattle.buffers.specs.Overwrite.{overwrite};
 ghost use Rattle.buffers.specs.Columns.{stored};
 ghost use Rattle.checks.specs.Checks.{checked};
 ghost use Rattle.checks.specs.Answers.{checkedReading, outcome};
-ghost use Rattle.noise.specs.Split.{noiseString, wordAt, xWord, yWord, noiseShares, setOf, noiseChecks, targets, noiseSplit};
+ghost use Rattle.noise.specs.Split.{noiseString, wordAt, xBit, yBit, noiseShares, setOf, noiseChecks, targets, noiseSplit};
 
 // The k bytes from `start` on as one number, the lowest first.
 fn read_group(bytes: &[u8], start: usize, k: usize) -> u32
@@ -51,7 +51,7 @@ fn store_group(group: u32, n: usize, k: usize, first: usize, x: &mut [u16], y: &
 // String i, whose words are share i of every coefficient. Four coefficients lie in k bytes.
 fn split_string(bytes: &[u8], n: usize, k: usize, i: usize, x: &mut [u16], y: &mut [u16])
     requires { ⌜ (n ≤ 8) × (2 ≤ k) × (k ≤ 3) × (i < n) × (n * (64 * k) ≤ length (now bytes)) × (256 * n ≤ length (now x)) × (256 * n ≤ length (now y)) ⌝ }
-    ensures { λ _. ⌜ (now (x .exit) ≡ stored (λ t. t * n + i) (λ t. xWord k (noiseString k (now (bytes .entry)) i) t) 256 (now (x .entry))) × (now (y .exit) ≡ stored (λ t. t * n + i) (λ t. yWord k (noiseString k (now (bytes .entry)) i) t) 256 (now (y .entry))) ⌝ }
+    ensures { λ _. ⌜ (now (x .exit) ≡ stored (λ t. t * n + i) (λ t. wordAt k (noiseString k (now (bytes .entry)) i) (xBit k t)) 256 (now (x .entry))) × (now (y .exit) ≡ stored (λ t. t * n + i) (λ t. wordAt k (noiseString k (now (bytes .entry)) i) (yBit k t)) 256 (now (y .entry))) ⌝ }
 {
     let string = i * (64 * k);
     for g in 0..64 {
@@ -62,7 +62,7 @@ fn split_string(bytes: &[u8], n: usize, k: usize, i: usize, x: &mut [u16], y: &m
 
 fn split_strings(bytes: &[u8], n: usize, k: usize, x: &mut [u16], y: &mut [u16])
     requires { ⌜ (n ≤ 8) × (2 ≤ k) × (k ≤ 3) × (n * (64 * k) ≤ length (now bytes)) × (256 * n ≤ length (now x)) × (256 * n ≤ length (now y)) ⌝ }
-    ensures { λ _. ⌜ (now (x .exit) ≡ overwrite (now (x .entry)) 0 (noiseShares xWord n k (now (bytes .entry)))) × (now (y .exit) ≡ overwrite (now (y .entry)) 0 (noiseShares yWord n k (now (bytes .entry)))) ⌝ }
+    ensures { λ _. ⌜ (now (x .exit) ≡ overwrite (now (x .entry)) 0 (noiseShares xBit n k (now (bytes .entry)))) × (now (y .exit) ≡ overwrite (now (y .entry)) 0 (noiseShares yBit n k (now (bytes .entry)))) ⌝ }
 {
     for i in 0..n {
         split_string(bytes, n, k, i, x, y);

@@ -7,7 +7,7 @@ use Rattle.buffers.specs.Overwrite.{overwrite}
 use Rattle.checks.specs.declared.Answer.the-variants.{Done}
 use Rattle.checks.specs.Answers.{outcome}
 use Rattle.checks.specs.Laws.{checks-hold, settles-accepted, settles-refused}
-use Rattle.noise.specs.Split.{xWord, yWord, noiseShares, targets, noiseSplit}
+use Rattle.noise.specs.Split.{xBit, yBit, noiseShares, targets, noiseSplit}
 use Rattle.noise.specs.Accepted.{Noise, noise}
 use borrow.Author.Needs.{needs}
 use Rattle.noise.proofs.split_noise.Statement.{statement}
@@ -17,7 +17,7 @@ fit : (c : tie.After-enum-told) → let a = c .before .before .before .before .b
 fit c = let a = c .before .before .before .before .before .before .args in noise (a .n) (a .set) (a .bytes .now) (a .x .now) (a .y .now) (checks-hold _ _ (c .before .before .check-noise .ensures) (c .enum-told .given .1))
 
 -- with the k of the set
-written : (n k k′ : ℕ) (bytes x y x′ y′ : List ℕ) → k ≡ k′ → x′ ≡ overwrite x 0 (noiseShares xWord n k bytes) → y′ ≡ overwrite y 0 (noiseShares yWord n k bytes) → targets x′ y′ ≡ targets (overwrite x 0 (noiseShares xWord n k′ bytes)) (overwrite y 0 (noiseShares yWord n k′ bytes))
+written : (n k k′ : ℕ) (bytes x y x′ y′ : List ℕ) → k ≡ k′ → x′ ≡ overwrite x 0 (noiseShares xBit n k bytes) → y′ ≡ overwrite y 0 (noiseShares yBit n k bytes) → targets x′ y′ ≡ targets (overwrite x 0 (noiseShares xBit n k′ bytes)) (overwrite y 0 (noiseShares yBit n k′ bytes))
 written n k k′ bytes x y x′ y′ e d h = rw (d, h, e)
 
 check-noise-requires : tie.Need-check-noise-requires

@@ -7,14 +7,14 @@ use native.Mathlib.Omega.{arith}
 use borrow.Author.Needs.{needs}
 use lib.ListN.{length}
 use Rattle.buffers.specs.Columns.{stored, stored-none, stored-all, stored-more, length-stored}
-use Rattle.noise.specs.Split.{noiseString, xWord, yWord}
+use Rattle.noise.specs.Split.{noiseString, wordAt, xBit, yBit}
 use Rattle.noise.specs.Groups.{group-x, group-y, group-inside}
 use Rattle.noise.proofs.split_string.Statement.{statement}
 use Rattle.noise.proofs.split_string.Tie as tie
 
 abbrev Inv-loop : tie.InvT-loop
 Inv-loop bytes n k i x₀ y₀ string g₀ x y g =
-    (g ≤ 64) × (x ≡ stored (λ t. t * n + i) (λ t. xWord k (noiseString k bytes i) t) (4 * g) x₀) × (y ≡ stored (λ t. t * n + i) (λ t. yWord k (noiseString k bytes i) t) (4 * g) y₀)
+    (g ≤ 64) × (x ≡ stored (λ t. t * n + i) (λ t. wordAt k (noiseString k bytes i) (xBit k t)) (4 * g) x₀) × (y ≡ stored (λ t. t * n + i) (λ t. wordAt k (noiseString k bytes i) (yBit k t)) (4 * g) y₀)
 
 abbrev μ-loop : tie.MeasureT-loop
 μ-loop bytes n k i x₀ y₀ string g₀ x y g = 64 - g

@@ -8,13 +8,13 @@ use lib.ListN.{length}
 use Rattle.buffers.specs.Overwrite.{overwrite}
 use Rattle.buffers.specs.Positions.{rows}
 use Rattle.buffers.specs.Columns.{columns, columns-none, columns-next, columns-all, length-columns}
-use Rattle.noise.specs.Split.{noiseString, xWord, yWord}
+use Rattle.noise.specs.Split.{noiseString, wordAt, xBit, yBit}
 use Rattle.noise.proofs.split_strings.Statement.{statement}
 use Rattle.noise.proofs.split_strings.Tie as tie
 
 abbrev Inv-loop : tie.InvT-loop
 Inv-loop bytes n k x₀ y₀ i₀ x y i =
-    (i ≤ n) × (x ≡ columns 256 n (λ t i. xWord k (noiseString k bytes i) t) i x₀) × (y ≡ columns 256 n (λ t i. yWord k (noiseString k bytes i) t) i y₀)
+    (i ≤ n) × (x ≡ columns 256 n (λ t i. wordAt k (noiseString k bytes i) (xBit k t)) i x₀) × (y ≡ columns 256 n (λ t i. wordAt k (noiseString k bytes i) (yBit k t)) i y₀)
 
 abbrev μ-loop : tie.MeasureT-loop
 μ-loop bytes n k x₀ y₀ i₀ x y i = n - i
