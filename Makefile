@@ -16,7 +16,7 @@ help:
 	@echo 'make lib        the library for C and Rust: $(library) and $(header)'
 	@echo 'make install    installs these and a pkg-config file below PREFIX, here $(PREFIX); DESTDIR goes before it'
 	@echo 'make uninstall  removes what make install installs'
-	@echo 'make bench      the sampler beside plain and careful C'
+	@echo 'make bench      samples, polynomials and the split of noise beside plain and careful C'
 	@echo 'make clean      removes target/ and build/'
 
 lesson:
@@ -63,7 +63,7 @@ bench: lib
 test:
 	@tools/prove fmt --check
 	@tools/setup
-	@tools/prove check lesson_file conversion lesson_program exam_program polynomial report_program
+	@tools/prove check lesson_file conversion noise lesson_program exam_program polynomial report_program
 	@$(MAKE) --silent --no-print-directory lib
 	tests/docs
 	tests/setup

@@ -220,6 +220,22 @@ pub fn sample_polynomial(
 ///
 /// Refuses, in this order: `ShareCount`; `SetNumber`; `NoiseSet`, for a set that is not 1 or 2; `NoiseLength`, for not exactly [`noise_bytes`];
 /// `OutputRoom`, for fewer than [`noise_shares`] words in x or in y. Words past those keep their content.
+///
+/// ```
+/// # use tinplateau::*;
+/// let Parameters { k, q } = parameter_set(1)?;
+/// // Noise of which every byte is 0x6c, in two shares: its bits are 00 11 01 10, the lowest first.
+/// let bytes = [[0x5a; 128], [0x36; 128]].concat();
+/// let (mut x, mut y) = ([0; noise_shares(2)], [0; noise_shares(2)]);
+/// assert_eq!(split_noise(2, 1, &bytes, &mut x, &mut y)?, noise_shares(2));
+/// // In earnest, words that are drawn.
+/// let words = [0; polynomial_words(2, 2, 256)];
+/// let (mut out, mut work) = ([0; polynomial_shares(2, 256)], [0; sample_work(2, 2)]);
+/// sample_polynomial(2, k, q, 256, &x, &y, &words, &mut out, &mut work)?;
+/// assert_eq!(centre(q, open_residue(2, q, &out[..2])?)?, -2);
+/// assert_eq!(centre(q, open_residue(2, q, &out[2..4])?)?, 0);
+/// # Ok::<(), Refusal>(())
+/// ```
 pub fn split_noise(n: usize, set: usize, bytes: &[u8], x: &mut [u16], y: &mut [u16]) -> Result<usize, Refusal> {
     answered(unsafe { ffi::tp_split_noise(n, set, bytes.as_ptr(), bytes.len(), x.as_mut_ptr(), x.len(), y.as_mut_ptr(), y.len()) })
 }
