@@ -1,5 +1,5 @@
 //! SHA-3 and SHAKE, written from FIPS 202. Each run checks them against the published digests of the empty message, and over several blocks by
-//! the published keys that are made with them.
+//! the known keys that are made with them.
 
 /// The lane (x, y) is at place y of column x.
 type State = [[u64; 5]; 5];

@@ -7,7 +7,7 @@ use crate::noise::{COEFFICIENTS, Q};
 /// The rank and η1 of ML-KEM-512, ML-KEM-768 and ML-KEM-1024, and a vector of NIST's for the key generation of each (ACVP): the seed d, and the
 /// SHA3-256 digest of its encapsulation key, which is a part of its decapsulation key. They are given from memory, and where they are published
 /// was not looked up; that FIPS 203 takes the one to the other is worked out here.
-const PUBLISHED: [(usize, u64, &str, &str); 3] = [
+const KNOWN: [(usize, u64, &str, &str); 3] = [
     (2, 3, "2CB843A02EF02EE109305F39119FABF49AB90A57FFECB3A0E75E179450F52761", "620130D6C2B8C904A3BB9307BE5103F8D814505FB6A60AF7937EA6CAA117315E"),
     (3, 2, "E34A701C4C87582F42264EE422D3C684D97611F2523EFE0C998AF05056D693DC", "E29020839D052FA372585627F8B59EE312AE414C979D825F06A6929A79625718"),
     (4, 2, "49AC8B99BB1E6A8EA818261F8BE68BDEAA52897E7EC6C40B530BC760AB77DCE3", "D2E574DFD8CD0AE893AA7E125B44B924F45223EC09F2AD1141EA93A68050DBF6"),
@@ -17,18 +17,18 @@ pub struct Generation {
     rank: usize,
     pub eta: u64,
     seed: Vec<u8>,
-    /// The digest of the encapsulation key, where that is published.
+    /// The digest of the encapsulation key, where that is known.
     digest: Option<Vec<u8>>,
 }
 
-/// Each of the three with its published seed and with two of ours: zeros, and the bytes from 0 to 31. What is derived from a seed is FIPS 203's.
+/// Each of the three with the seed above and with two of ours: zeros, and the bytes from 0 to 31. What is derived from a seed is FIPS 203's.
 pub fn generations() -> Vec<Generation> {
     let with = |rank, eta, seed, digest| Generation { rank, eta, seed, digest };
     let of_rank = |(rank, eta, seed, digest)| {
-        let published = with(rank, eta, from_hex(seed), Some(from_hex(digest)));
-        [published, with(rank, eta, vec![0; 32], None), with(rank, eta, (0..32).collect(), None)]
+        let known = with(rank, eta, from_hex(seed), Some(from_hex(digest)));
+        [known, with(rank, eta, vec![0; 32], None), with(rank, eta, (0..32).collect(), None)]
     };
-    PUBLISHED.into_iter().flat_map(of_rank).collect()
+    KNOWN.into_iter().flat_map(of_rank).collect()
 }
 
 impl Generation {
@@ -63,8 +63,8 @@ impl Generation {
         key
     }
 
-    /// Whether the published key follows from the noise, where one is published.
-    pub fn gives_published_key(&self, noise: &[Vec<u64>]) -> Option<bool> {
+    /// Whether the known key follows from the noise, where there is one.
+    pub fn gives_known_key(&self, noise: &[Vec<u64>]) -> Option<bool> {
         self.digest.as_ref().map(|digest| sha3_256(&self.key(noise)) == *digest)
     }
 }

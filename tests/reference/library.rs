@@ -53,13 +53,13 @@ const CALLS_TO_A_WALK: usize = 150;
 /// After so many differences the rest is not tried.
 const MOST_DIFFERENCES: usize = 5;
 
-/// Key generations whose noise went all the way, its polynomials, how often these did, and how often a published key followed.
+/// Key generations whose noise went all the way, its polynomials, how often these did, and how often a known key followed.
 #[derive(Default)]
 struct Keys {
     generations: usize,
     polynomials: usize,
     ways: usize,
-    published: usize,
+    known: usize,
 }
 
 struct Comparison {
@@ -164,7 +164,7 @@ impl Comparison {
         residues
     }
 
-    /// The noise of a key generation, shared with each n. A published key follows from what is opened.
+    /// The noise of a key generation, shared with each n. A known key follows from what is opened.
     fn make_keys(&mut self, generation: &Generation) {
         let noise = generation.noise();
         for n in 2..=8 {
@@ -175,12 +175,12 @@ impl Comparison {
                     return;
                 }
             }
-            match generation.gives_published_key(&residues) {
+            match generation.gives_known_key(&residues) {
                 Some(false) => {
                     self.differences += 1;
-                    eprintln!("with n {n}, noise of η {} gives another key than the published one", generation.eta);
+                    eprintln!("with n {n}, noise of η {} gives another key than the known one", generation.eta);
                 }
-                Some(true) => self.keys.published += 1,
+                Some(true) => self.keys.known += 1,
                 None => (),
             }
             self.keys.ways += noise.len();
@@ -235,9 +235,9 @@ impl Comparison {
 
 impl Keys {
     fn print(&self) {
-        let Keys { generations, polynomials, ways, published } = self;
+        let Keys { generations, polynomials, ways, known } = self;
         println!("library: noise polynomials of {generations} ML-KEM key generations: {polynomials}, shared with each n and opened again: {ways}");
-        println!("  published keys that follow from the opened noise: {published}");
+        println!("  known keys that follow from the opened noise: {known}");
     }
 }
 

@@ -228,7 +228,7 @@ pub fn sample_polynomial(
 /// let bytes = [[0x5a; 128], [0x36; 128]].concat();
 /// let (mut x, mut y) = ([0; noise_shares(2)], [0; noise_shares(2)]);
 /// assert_eq!(split_noise(2, 1, &bytes, &mut x, &mut y)?, noise_shares(2));
-/// // In earnest, words that are drawn.
+/// // A caller draws these.
 /// let words = [0; polynomial_words(2, 2, 256)];
 /// let (mut out, mut work) = ([0; polynomial_shares(2, 256)], [0; sample_work(2, 2)]);
 /// sample_polynomial(2, k, q, 256, &x, &y, &words, &mut out, &mut work)?;

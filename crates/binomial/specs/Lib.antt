@@ -4,3 +4,4 @@ pub mod Answers
 pub mod Weight
 pub mod Centring
 pub mod SetsFit
+pub mod SetLaws

@@ -50,10 +50,13 @@ setOf number = orNone (parameterSet number)
 abbrev pub noiseSet : ℕ → Check
 noiseSet number = record { holds = within 1 2 number; code = 24; position = 0 }
 
--- 1, 22, 24, 25 and 10, for x and for y
+-- 24, 25, and 10 for x and for y
+abbrev pub listChecks : ℕ → ℕ → ℕ → List ℕ → ℕ → ℕ → List Check
+listChecks n number k bytes xroom yroom = noiseSet number ∷ exactly 25 (n * (64 * k)) bytes ∷ atLeast 10 (256 * n) xroom ∷ atLeast 10 (256 * n) yroom ∷ []
+
+-- 1, 22, and these with the k of the set
 abbrev pub noiseChecks : ℕ → ℕ → List ℕ → ℕ → ℕ → List Check
-noiseChecks n number bytes xroom yroom =
-    shareCount n ∷ setChecks number ++ (noiseSet number ∷ exactly 25 (n * (64 * setOf number .k)) bytes ∷ atLeast 10 (256 * n) xroom ∷ atLeast 10 (256 * n) yroom ∷ [])
+noiseChecks n number bytes xroom yroom = shareCount n ∷ setChecks number ++ listChecks n number (setOf number .k) bytes xroom yroom
 
 -- the two target lists
 pub record Targets : Type 0 where

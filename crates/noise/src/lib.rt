@@ -10,7 +10,7 @@ ghost use Rattle.buffers.specs.Overwrite.{overwrite};
 ghost use Rattle.buffers.specs.Columns.{stored};
 ghost use Rattle.checks.specs.Checks.{checked};
 ghost use Rattle.checks.specs.Answers.{checkedReading, outcome};
-ghost use Rattle.noise.specs.Split.{noiseString, wordAt, xBit, yBit, noiseShares, setOf, noiseChecks, targets, noiseSplit};
+ghost use Rattle.noise.specs.Split.{noiseString, wordAt, xBit, yBit, noiseShares, setOf, listChecks, noiseChecks, targets, noiseSplit};
 
 // The k bytes from `start` on as one number, the lowest first.
 fn read_group(bytes: &[u8], start: usize, k: usize) -> u32
@@ -79,19 +79,14 @@ fn bits_of(set: usize) -> usize
     }
 }
 
-fn check_noise(n: usize, set: usize, bytes: &[u8], xroom: usize, yroom: usize) -> Checked
-    ensures { λ r. ⌜ checkedReading r ≡ checked (noiseChecks n set (now (bytes .entry)) xroom yroom) ⌝ }
+fn check_lists(n: usize, set: usize, k: usize, bytes: &[u8], xroom: usize, yroom: usize) -> Checked
+    requires { ⌜ (n ≤ 8) × (k ≤ 16) ⌝ }
+    ensures { λ r. ⌜ checkedReading r ≡ checked (listChecks n set k (now (bytes .entry)) xroom yroom) ⌝ }
 {
-    if !checks::within(2, 8, n) {
-        return checks::refuse(checks::SHARE_COUNT, 0);
-    }
-    if !checks::within(1, 7, set) {
-        return checks::refuse(checks::SET_NUMBER, 0);
-    }
     if !checks::within(1, 2, set) {
         return checks::refuse(checks::NOISE_SET, 0);
     }
-    if bytes.len() != n * (64 * bits_of(set)) {
+    if bytes.len() != n * (64 * k) {
         return checks::refuse(checks::NOISE_LENGTH, 0);
     }
     if xroom < 256 * n {
@@ -101,6 +96,18 @@ fn check_noise(n: usize, set: usize, bytes: &[u8], xroom: usize, yroom: usize) -
         return checks::refuse(checks::OUTPUT_ROOM, 0);
     }
     Checked::Passed
+}
+
+fn check_noise(n: usize, set: usize, bytes: &[u8], xroom: usize, yroom: usize) -> Checked
+    ensures { λ r. ⌜ checkedReading r ≡ checked (noiseChecks n set (now (bytes .entry)) xroom yroom) ⌝ }
+{
+    if !checks::within(2, 8, n) {
+        return checks::refuse(checks::SHARE_COUNT, 0);
+    }
+    match binomial::parameter_set(set) {
+        SetAnswer::Set(s) => check_lists(n, set, s.k, bytes, xroom, yroom),
+        SetAnswer::Refused(r) => Checked::Failed(r),
+    }
 }
 
 // Splits n strings of 64 * k bytes, one after the other, into the x and y shares of 256 coefficients, as sample_polynomial takes them with the k and q
