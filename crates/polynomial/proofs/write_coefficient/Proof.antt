@@ -75,10 +75,10 @@ write-sample-requires c κs =
     )
 
 same-length : tie.Need-same-length
-same-length c = search needs
+same-length c = c .before .before .before .out .given .1
 
 same-length-2 : tie.Need-same-length-2
-same-length-2 c = search needs
+same-length-2 c = c .before .work .given
 
 returns : tie.Need-returns
 returns c =
