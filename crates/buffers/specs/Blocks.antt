@@ -5,7 +5,7 @@ use Prim.Native.Nat.{ℕ, zero, suc, _+_, _-_, _*_, _≤_, _<_}
 use native.Mathlib.Nat as N
 use native.Mathlib.Nat.{not-suc-le-zero, le-of-suc-le-suc}
 use native.Mathlib.Omega.{arith}
-use lib.ListN.{length, take, drop, length-take, length-drop, drop-of-length-le}
+use lib.ListN.{length, take, drop, length-take, length-drop, drop-of-length-le, List·getD-eq-default}
 use lib.Seq.{getD-take, getD-drop, length-take-le, take-nil, take-at, drop-at, take-take, drop-drop}
 use Rattle.residue.specs.Residue.{EachBelow}
 use Rattle.residue.specs.Sum.{each-below-take, each-below-drop}
@@ -44,6 +44,11 @@ module _ (c : ℕ) (l : List ℕ) where
   pub block-at : (t i : ℕ) → i < c → at (block c t l) i ≡ at l (t * c + i)
   unfolding block
   block-at t i h = getD-take c (drop (t * c) l) i 0 h ∙ getD-drop (t * c) l i 0
+
+  -- and 0 behind its end
+  pub block-past : (t i : ℕ) → c ≤ i → at (block c t l) i ≡ 0
+  unfolding block
+  block-past t i h = List·getD-eq-default (take c (drop (t * c) l)) 0 (omega (arith, length-take c (drop (t * c) l)))
 
   -- a block of the first m
   pub block-front : (t m : ℕ) → t < m → block c t (take (m * c) l) ≡ block c t l

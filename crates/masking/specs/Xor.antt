@@ -11,7 +11,7 @@ use lib.Pow.{pow-pos}
 use Rattle.residue.specs.Residue.{reduce, add, EachBelow}
 use Rattle.residue.specs.Laws.{add-assoc, add-reduce-left, add-reduce-right}
 use Rattle.buffers.specs.Positions.{at, table}
-use Rattle.buffers.specs.PositionLaws.{table-below}
+use Rattle.buffers.specs.PositionLaws.{length-table, table-at, table-below, table-same}
 use Rattle.checks.specs.Width.{bit}
 use Rattle.checks.specs.FromBits.{fromBits, AreBits}
 use Rattle.masking.specs.Sharing.{xorAll}
@@ -61,6 +61,14 @@ pub bit-xorAll : (t : ℕ) (l : List ℕ) → bit (xorAll l) t ≡ xorAll (table
 unfolding xorAll table
 bit-xorAll t [] = ap (λ (x : ℕ). x % 2) (zero-div (2 ^ t))
 bit-xorAll t (x ∷ l) = bit-xor x (xorAll l) t ∙ ap (bitXor (bit x t)) (bit-xorAll t l)
+
+pub bit-xorTable : (n t : ℕ) (f : ℕ → ℕ) → bit (xorAll (table n f)) t ≡ xorAll (table n (λ i. bit (f i) t))
+bit-xorTable n t f = bit-xorAll t (table n f) ∙ rw (length-table n f) (ap xorAll (table-same n _ _ (λ i l. ap (λ (x : ℕ). bit x t) (table-at n f i l))))
+
+pub xorAll-zeros : (n : ℕ) (f : ℕ → ℕ) → ((i : ℕ) → f i ≡ 0) → xorAll (table n f) ≡ 0
+unfolding xorAll table
+xorAll-zeros zero f h = refl
+xorAll-zeros (suc n) f h = rw (h 0, xorAll-zeros n (λ i. f (suc i)) (λ i. h (suc i)))
 
 -- the XOR of numbers of k bits has k bits
 pub xorAll-lt : (k : ℕ) (l : List ℕ) → EachBelow (2 ^ k) l → xorAll l < 2 ^ k

@@ -24,7 +24,7 @@ module _ (number : ℕ) (s : ParameterSet) (e : parameterSet number ≡ accepted
       let same : setOf number ≡ s = ap (λ v. orNone v) e in
       record { published = e ∙ ap accepted (sym same); two = rw same two; three = rw same three }
 
-pub noise-set : (number : ℕ) → 1 ≤ number → number ≤ 2 → NoiseSet number
+noise-set : (number : ℕ) → 1 ≤ number → number ≤ 2 → NoiseSet number
 noise-set zero h l = absurd (omega arith)
 noise-set (suc zero) h l = of-set 1 (set 2 3329) set-1 (omega arith) (omega arith)
 noise-set (suc (suc zero)) h l = of-set 2 (set 3 3329) set-2 (omega arith) (omega arith)

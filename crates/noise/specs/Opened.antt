@@ -1,19 +1,18 @@
 -- Opened, the shares are the words of the opened bytes, and their weight differences the polynomial of FIPS 203.
-use mathlib.Core.Path.{_≡_, refl, sym, ap, ap₂, _∙_}
+use mathlib.Core.Path.{_≡_, sym, ap, ap₂, _∙_}
 use mathlib.Core.List.{List}
-use Prim.Native.Nat.{ℕ, zero, suc, _+_, _*_, _/_, _%_, _^_, _≤_, _<_}
-use native.Mathlib.Omega.{arith}
+use Prim.Native.Nat.{ℕ, _+_, _*_, _/_, _%_, _^_, _≤_, _<_}
 use lib.IntN.{pos, _-ℤ_}
-use lib.ListN.{length, length-take, List·getD-eq-default, drop}
+use lib.ListN.{length}
 use Rattle.residue.specs.Residue.{reduceℤ, EachBelow}
 use Rattle.buffers.specs.Positions.{at, table, block}
-use Rattle.buffers.specs.PositionLaws.{table-same, length-table, table-at, list-table}
+use Rattle.buffers.specs.PositionLaws.{table-same, table-at, list-table}
 use Rattle.buffers.specs.Rows.{length-rows, rows-below}
-use Rattle.buffers.specs.Blocks.{block-rows}
+use Rattle.buffers.specs.Blocks.{block-past, block-rows}
 use Rattle.checks.specs.Width.{bit}
 use Rattle.checks.specs.FromBits.{from-same, from-lt}
 use Rattle.masking.specs.Sharing.{xorAll}
-use Rattle.masking.specs.Xor.{bit-xorAll, from-xorAll}
+use Rattle.masking.specs.Xor.{xorAll-zeros, bit-xorTable, from-xorAll}
 use Rattle.binomial.specs.Signed.{weight, differenceOfWeights}
 use Rattle.binomial.specs.Weight.{weight-bits, bitSum-from}
 use Rattle.noise.specs.Fips203.{bytesToBits, bitsFrom, samplePolyCBD}
@@ -27,24 +26,15 @@ module _ (k : ℕ) (string : List ℕ) (s : ℕ) where
   weight-word : k ≤ 16 → weight (wordAt k string s) ≡ bitsFrom k (bytesToBits string) s
   weight-word l = weight-bits k (wordAt k string s) l word-lt ∙ bitSum-from k _ (λ j. are-bits string (s + j))
 
-xorAll-zeros : (n : ℕ) (f : ℕ → ℕ) → ((i : ℕ) → f i ≡ 0) → xorAll (table n f) ≡ 0
-unfolding xorAll table
-xorAll-zeros zero f h = refl
-xorAll-zeros (suc n) f h = rw (h 0, xorAll-zeros n (λ i. f (suc i)) (λ i. h (suc i)))
-
-bit-opened : (n t : ℕ) (f : ℕ → ℕ) → bit (xorAll (table n f)) t ≡ xorAll (table n (λ i. bit (f i) t))
-bit-opened n t f = bit-xorAll t (table n f) ∙ rw (length-table n f) (ap xorAll (table-same n _ _ (λ i l. ap (λ (x : ℕ). bit x t) (table-at n f i l))))
-
 module _ (n k : ℕ) (bytes : List ℕ) where
   opened-at : (p : ℕ) → at (openedBytes n k bytes) p ≡ xorAll (table n (λ i. at (noiseString k bytes i) p))
-  unfolding openedBytes block
-  opened-at p =
-      ap (λ (f : ℕ → ℕ). f p) (list-table (64 * k) _ (λ p l. xorAll-zeros n _ (λ i. List·getD-eq-default (noiseString k bytes i) 0 (omega (arith, length-take (64 * k) (drop (i * (64 * k)) bytes))))))
+  unfolding openedBytes
+  opened-at p = ap (λ (f : ℕ → ℕ). f p) (list-table (64 * k) _ (λ p l. xorAll-zeros n _ (λ i. block-past (64 * k) bytes i p l)))
 
   -- bit p of the opened bytes is the XOR of the strings' bits p
   opened-bit : (p : ℕ) → at (bytesToBits (openedBytes n k bytes)) p ≡ xorAll (table n (λ i. at (bytesToBits (noiseString k bytes i)) p))
   opened-bit p =
-      bits-at (openedBytes n k bytes) p ∙ ap (λ (x : ℕ). bit x (p % 8)) (opened-at (p / 8)) ∙ bit-opened n (p % 8) _
+      bits-at (openedBytes n k bytes) p ∙ ap (λ (x : ℕ). bit x (p % 8)) (opened-at (p / 8)) ∙ bit-xorTable n (p % 8) _
       ∙ ap xorAll (table-same n _ _ (λ i l. sym (bits-at (noiseString k bytes i) p)))
 
   -- and so it is with words
