@@ -36,7 +36,7 @@ static void damage_number(call *c, point p, size_t m, enum tp_code check)
     else if (check == TP_OUTPUT_ROOM)
         c->out_len = random_within(0, shares - 1);
     else if (check == TP_WORK_ROOM)
-        c->work_len = random_within(0, TP_SAMPLE_WORK(p.n, p.k) - 1);
+        c->work_len = random_within(0, TP_SAMPLE_WORK(p.n) - 1);
 }
 
 /* The same for what a list holds, in any coefficient. */

@@ -56,7 +56,7 @@ static void make_sample(call *c, point p, size_t m)
                 .y_len = shares,
                 .words_len = TP_POLYNOMIAL_WORDS(p.n, p.k, m) + random_within(0, SPARE),
                 .out_len = shares + random_within(0, SPARE),
-                .work_len = TP_SAMPLE_WORK(p.n, p.k) + random_within(0, SPARE),
+                .work_len = TP_SAMPLE_WORK(p.n) + random_within(0, SPARE),
                 .other_shares = shares - p.n,
                 .other_words = TP_POLYNOMIAL_WORDS(p.n, p.k, m - 1)};
     c->x = make_list(shares, 1u << p.k);

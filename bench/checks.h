@@ -63,7 +63,7 @@ static inline tp_answer check_all(size_t n, size_t k, uint16_t q, size_t m, cons
         return answer(9, unfit);
     if (out_len < m * n)
         return answer(10, 0);
-    if (work_len < 2 * k * n)
+    if (work_len < n)
         return answer(11, 0);
     return answer(0, used);
 }

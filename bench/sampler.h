@@ -6,42 +6,41 @@
 
 #include "checks.h"
 
+#include <stdbool.h>
 #include <string.h>
 
 /* Steps 1 to 3: the row of bit t, from its n(n - 1) words. */
-static inline void convert_bit(const uint16_t *shares, size_t t, size_t n, uint32_t q, const uint16_t *words, uint16_t *row)
+static inline void convert_bit(const uint16_t *shares, size_t t, size_t n, uint32_t q, const uint16_t *words, uint16_t row[8])
 {
-    uint16_t c[8];
-    c[0] = (shares[0] >> t) & 1;
+    row[0] = (shares[0] >> t) & 1;
     for (size_t j = 1; j < n; j++) {
         uint32_t bit = (shares[j] >> t) & 1;
         uint32_t sum = 0;
         for (size_t i = 0; i < j; i++) {
             uint32_t r = *words++;
             sum = add(sum, r, q);
-            c[i] = less_twice(sub(c[i], r, q), bit, q);
+            row[i] = less_twice(sub(row[i], r, q), bit, q);
         }
-        c[j] = less_twice(sum, bit, q);
-        c[0] = add(c[0], bit, q);
+        row[j] = less_twice(sum, bit, q);
+        row[0] = add(row[0], bit, q);
     }
     for (size_t i = 0; i < n; i++)
         for (size_t m = i + 1; m < n; m++) {
             uint32_t r = *words++;
-            c[i] = add(c[i], r, q);
-            c[m] = sub(c[m], r, q);
+            row[i] = add(row[i], r, q);
+            row[m] = sub(row[m], r, q);
         }
-    memcpy(row, c, n * sizeof *row);
 }
 
-/* Output share i: the sum of column i over the k rows of x, less that over the k rows of y behind them. */
-static inline uint16_t column_share(const uint16_t *work, size_t n, size_t k, uint32_t q, size_t i)
+/* The rows of the k bits of a string, each added to the totals or taken off. */
+static inline void add_string(const uint16_t *shares, size_t n, size_t k, uint32_t q, const uint16_t *words, bool negative, uint16_t *totals)
 {
-    uint32_t total = 0;
-    for (size_t t = 0; t < k; t++)
-        total = add(total, work[t * n + i], q);
-    for (size_t t = k; t < 2 * k; t++)
-        total = sub(total, work[t * n + i], q);
-    return total;
+    uint16_t row[8];
+    for (size_t t = 0; t < k; t++) {
+        convert_bit(shares, t, n, q, words + t * n * (n - 1), row);
+        for (size_t i = 0; i < n; i++)
+            totals[i] = negative ? sub(totals[i], row[i], q) : add(totals[i], row[i], q);
+    }
 }
 
 /* A sample's m is a constant, so that the loop over the coefficients leaves no trace in it. A sample is a function that NAME calls, and a polynomial
@@ -62,13 +61,13 @@ CALL(size_t n, size_t k, uint16_t q, COEFFICIENTS const uint16_t *x, size_t x_le
     tp_answer checked = check_all(n, k, q, m, x, x_len, y, y_len, words, words_len, out_len, work_len);
     if (checked.code != 0)
         return checked;
+    memset(work, 0, n * sizeof *work);
     for (size_t c = 0; c < m; c++) {
-        for (size_t t = 0; t < 2 * k; t++)
-            convert_bit((t < k ? x : y) + c * n, t < k ? t : t - k, n, q, words + (c * 2 * k + t) * n * (n - 1), work + t * n);
-        for (size_t i = 0; i < n; i++)
-            out[c * n + i] = column_share(work, n, k, q, i);
+        add_string(x + c * n, n, k, q, words + c * 2 * k * n * (n - 1), false, work);
+        add_string(y + c * n, n, k, q, words + (c * 2 + 1) * k * n * (n - 1), true, work);
+        memcpy(out + c * n, work, n * sizeof *work);
+        memset(work, 0, n * sizeof *work);
     }
-    memset(work, 0, 2 * k * n * sizeof *work);
     return checked;
 }
 

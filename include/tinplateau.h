@@ -18,8 +18,8 @@
 #include <stdint.h>
 
 /* MINOR rises with a new call, MAJOR where a call or the meaning of an answer changes. */
-#define TINPLATEAU_VERSION_MAJOR 2
-#define TINPLATEAU_VERSION_MINOR 2
+#define TINPLATEAU_VERSION_MAJOR 3
+#define TINPLATEAU_VERSION_MINOR 0
 
 /* Has the compiler warn where an answer is dropped; gcc does so in C in spite of a cast to void. Defined as nothing (-DTP_NODISCARD=) it is
  * off. */
@@ -58,7 +58,7 @@ extern "C" {
 #endif
 #define TP_BIT_WORDS(n) (TP_SIZE(n) * (TP_SIZE(n) - 1))
 #define TP_SAMPLE_WORDS(n, k) (2 * TP_SIZE(k) * TP_BIT_WORDS(n))
-#define TP_SAMPLE_WORK(n, k) (2 * TP_SIZE(k) * TP_SIZE(n))
+#define TP_SAMPLE_WORK(n) TP_SIZE(n)
 #define TP_POLYNOMIAL_SHARES(n, m) (TP_SIZE(m) * TP_SIZE(n))
 #define TP_POLYNOMIAL_WORDS(n, k, m) (TP_SIZE(m) * TP_SAMPLE_WORDS(n, k))
 #define TP_NOISE_BYTES(n, k) (64 * TP_SIZE(k) * TP_SIZE(n))
@@ -214,11 +214,11 @@ tp_answer tp_convert_bit(size_t n, uint16_t q, const uint16_t *bits, size_t bits
                          uint16_t *out, size_t out_len);
 
 /* Samples: n shares modulo q of the weight of x less the weight of y, with the W = 2kn(n - 1) words from start on. Answers the position behind
- * them, start + W, where the next call may start. With words drawn so, no n - 1 of the shares tell anything of x and y. The first 2kn words of
+ * them, start + W, where the next call may start. With words drawn so, no n - 1 of the shares tell anything of x and y. The first n words of
  * the work area are 0 afterwards.
  * Refuses 1 (n); 2 (k); 3 (q below 2k + 1); 4 (not n shares of x); 5 (of y); 6 (a share of x of more than k bits, with its position); 7 (of y);
  * 8 (fewer than start + W words, for any start: the sum does not overflow); 9 (one of those from start on not below q, with its position from
- * the front of the list); 10 (fewer than n output words); 11 (fewer than 2kn words in the work area). Words before start, and words, output
+ * the front of the list); 10 (fewer than n output words); 11 (fewer than n words in the work area). Words before start, and words, output
  * words and work words past those, are neither read nor written. */
 TP_NODISCARD
 tp_answer tp_sample(size_t n, size_t k, uint16_t q, const uint16_t *x, size_t x_len, const uint16_t *y, size_t y_len, const uint16_t *words,
@@ -226,10 +226,10 @@ tp_answer tp_sample(size_t n, size_t k, uint16_t q, const uint16_t *x, size_t x_
 
 /* Samples a polynomial: m coefficients, each as tp_sample makes it. Lists hold coefficient after coefficient: coefficient t, from 0, has the n
  * shares from position tn on in x, y and output, and takes the W = 2kn(n - 1) words from position tW on. Answers mW. With words drawn so, any
- * n - 1 shares of each coefficient, all taken together, tell nothing of x and y. The first 2kn words of the work area are 0 afterwards.
+ * n - 1 shares of each coefficient, all taken together, tell nothing of x and y. The first n words of the work area are 0 afterwards.
  * Refuses, with each check made for all coefficients before the next and positions from the start of the whole list: 1 (n); 2 (k); 3 (q below
  * 2k + 1); 23 (m); 4 (not mn shares of x); 5 (of y); 6 (a share of x of more than k bits, with its position); 7 (of y); 8 (fewer than mW words);
- * 9 (one of these not below q, with its position); 10 (fewer than mn output words); 11 (fewer than 2kn words in the work area). Words, output
+ * 9 (one of these not below q, with its position); 10 (fewer than mn output words); 11 (fewer than n words in the work area). Words, output
  * words and work words past those are neither read nor written. */
 TP_NODISCARD
 tp_answer tp_sample_polynomial(size_t n, size_t k, uint16_t q, size_t m, const uint16_t *x, size_t x_len, const uint16_t *y, size_t y_len,

@@ -230,7 +230,7 @@ pub fn sample_polynomial(
 /// assert_eq!(split_noise(2, 1, &bytes, &mut x, &mut y)?, noise_shares(2));
 /// // A caller draws these.
 /// let words = [0; polynomial_words(2, 2, 256)];
-/// let (mut out, mut work) = ([0; polynomial_shares(2, 256)], [0; sample_work(2, 2)]);
+/// let (mut out, mut work) = ([0; polynomial_shares(2, 256)], [0; sample_work(2)]);
 /// sample_polynomial(2, k, q, 256, &x, &y, &words, &mut out, &mut work)?;
 /// assert_eq!(centre(q, open_residue(2, q, &out[..2])?)?, -2);
 /// assert_eq!(centre(q, open_residue(2, q, &out[2..4])?)?, 0);

@@ -35,12 +35,12 @@ pub const fn bit_words(n: usize) -> usize {
 
 /// The random words that [`sample`](crate::sample) takes: 2kn(n - 1).
 pub const fn sample_words(n: usize, k: usize) -> usize {
-    sample_work(n, k).saturating_mul(n.saturating_sub(1))
+    k.saturating_mul(2).saturating_mul(bit_words(n))
 }
 
-/// The words of work area that [`sample`](crate::sample) takes, and [`sample_polynomial`](crate::sample_polynomial) too: 2kn.
-pub const fn sample_work(n: usize, k: usize) -> usize {
-    k.saturating_mul(2).saturating_mul(n)
+/// The words of work area that [`sample`](crate::sample) takes, and [`sample_polynomial`](crate::sample_polynomial) too: n.
+pub const fn sample_work(n: usize) -> usize {
+    n
 }
 
 /// The shares of x, of y and of output in [`sample_polynomial`](crate::sample_polynomial): mn each.
