@@ -49,7 +49,7 @@ static void sample_strings(size_t n, size_t k, uint16_t q)
     begin_case(__FILE__, __LINE__);
     tp_string x_string = share_string(n, k, x), y_string = share_string(n, k, y);
     draw(words, used, q);
-    sample(&(struct sample_case)CASE(n, k, q, {x, n}, {y, n}, {words, used}, n, 2 * k * n, {0, used}, NONE), WITHIN, SPARE, shares);
+    sample(&(struct sample_case)CASE(n, k, q, {x, n}, {y, n}, {words, used}, n, n, {0, used}, NONE), WITHIN, SPARE, shares);
     tp_signed centred = tp_centred(q, open_residue(n, q, shares)), difference = tp_weight_difference(k, x_string, y_string);
     CHECK(centred.code == 0 && centred.position == 0);
     CHECK(difference.code == 0 && difference.position == 0);
@@ -76,6 +76,7 @@ static void run_pass(enum pass next)
     sample_all_sizes();
     start_cases();
     polynomial_cases();
+    area_cases();
     noise_cases();
     lesson_cases();
     size_cases();

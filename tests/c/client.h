@@ -67,6 +67,8 @@ void mask(const struct mask_case *c, size_t spare, uint16_t shares[SHARES]);
 size_t convert_bit(const struct bit_case *c, origin from, size_t spare, uint16_t shares[SHARES]);
 size_t sample(const struct sample_case *c, origin from, size_t spare, uint16_t shares[SHARES]);
 void sample_polynomial(size_t m, const struct sample_case *c, size_t spare, uint16_t *shares);
+/* The same with this content in front of the work area. With no number of coefficients it is one sample. A polynomial starts at the front. */
+size_t call_sampler(const size_t *m, const struct sample_case *c, origin from, size_t spare, list before, uint16_t *shares);
 /* The same with what the case has room for. The shares are given. */
 void split_noise(const struct noise_case *c);
 
@@ -84,6 +86,7 @@ void conversion_cases(void);
 void sampler_cases(void);
 void start_cases(void);
 void polynomial_cases(void);
+void area_cases(void);
 void noise_cases(void);
 void lesson_cases(void);
 void size_cases(void);

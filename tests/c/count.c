@@ -9,7 +9,7 @@
 
 enum { SHARES = 8, ROWS = 32, SAMPLE_WORDS = ROWS * SHARES * (SHARES - 1), MOST = 3, START = 5, NOISE = 256 };
 
-static uint16_t x[NOISE * SHARES], y[NOISE * SHARES], words[START + MOST * SAMPLE_WORDS], out[MOST * SHARES], work[ROWS * SHARES];
+static uint16_t x[NOISE * SHARES], y[NOISE * SHARES], words[START + MOST * SAMPLE_WORDS], out[MOST * SHARES], work[SHARES];
 
 static void make(uint16_t *list, size_t len, uint32_t bound, unsigned long input)
 {
@@ -52,7 +52,7 @@ int main(int argc, char **argv)
     make(words, START, 1u << 16, input);
     make(words + START, used, q, input);
     bool one = strcmp(argv[1], "tp_sample") == 0;
-    tp_answer answer = one ? tp_sample(n, k, q, x, shares, y, shares, words, START + used, START, out, shares, work, 2 * k * n)
-                           : tp_sample_polynomial(n, k, q, m, x, shares, y, shares, words + START, used, out, shares, work, 2 * k * n);
+    tp_answer answer = one ? tp_sample(n, k, q, x, shares, y, shares, words, START + used, START, out, shares, work, n)
+                           : tp_sample_polynomial(n, k, q, m, x, shares, y, shares, words + START, used, out, shares, work, n);
     return answer.code == 0 && answer.value == used + (one ? START : 0) ? EXIT_SUCCESS : EXIT_FAILURE;
 }

@@ -81,7 +81,7 @@ static void check_polynomial(size_t n, size_t k, const uint16_t *x, const uint16
     static uint16_t words[COEFFICIENTS * SAMPLE_WORDS], shares[NOISE_SHARES];
     size_t used = COEFFICIENTS * 2 * k * n * (n - 1), len = COEFFICIENTS * n;
     draw(words, used, Q);
-    const struct sample_case c = CASE(n, k, Q, {x, len}, {y, len}, {words, used}, len, 2 * k * n, {0, used}, NONE);
+    const struct sample_case c = CASE(n, k, Q, {x, len}, {y, len}, {words, used}, len, n, {0, used}, NONE);
     sample_polynomial(COEFFICIENTS, &c, 0, shares);
     for (size_t t = 0; t < COEFFICIENTS; t++)
         CHECK(open_residue(n, Q, shares + t * n).value == f[t]);

@@ -16,7 +16,7 @@ static void sample_zeros(size_t n, size_t k, size_t words, size_t start, size_t 
 
 static void sample_sizes(size_t n, size_t k)
 {
-    size_t words = TP_SAMPLE_WORDS(n, k), work = TP_SAMPLE_WORK(n, k);
+    size_t words = TP_SAMPLE_WORDS(n, k), work = TP_SAMPLE_WORK(n);
     CHECK(words <= TP_MAX_WORDS);
     for (size_t start = 0; start <= words; start += words) {
         sample_zeros(n, k, start + words, start, work, (tp_answer){TP_ACCEPTED, start + words});
@@ -26,28 +26,28 @@ static void sample_sizes(size_t n, size_t k)
 }
 
 /* A polynomial of zeros. */
-static void polynomial_zeros(size_t n, size_t k, size_t m, size_t shares, size_t words, size_t out, tp_answer answer)
+static void polynomial_zeros(size_t n, size_t k, size_t m, size_t shares, size_t words, size_t out, size_t work, tp_answer answer)
 {
     static uint16_t made[TP_POLYNOMIAL_SHARES(TP_MAX_SHARES, TP_MAX_COEFFICIENTS)];
-    size_t work = TP_SAMPLE_WORK(n, k);
     struct sample_case c = CASE(n, k, 65535, {zeros, shares}, {zeros, shares}, {zeros, words}, out, work, answer, NONE);
     sample_polynomial(m, &c, 0, made);
 }
 
 static void polynomial_sizes(size_t n, size_t k, size_t m)
 {
-    size_t shares = TP_POLYNOMIAL_SHARES(n, m), words = TP_POLYNOMIAL_WORDS(n, k, m);
-    polynomial_zeros(n, k, m, shares, words, shares, (tp_answer){TP_ACCEPTED, words});
-    polynomial_zeros(n, k, m, shares - 1, words, shares, (tp_answer){TP_X_COUNT, 0});
-    polynomial_zeros(n, k, m, shares + 1, words, shares, (tp_answer){TP_X_COUNT, 0});
-    polynomial_zeros(n, k, m, shares, words - 1, shares, (tp_answer){TP_WORD_COUNT, 0});
-    polynomial_zeros(n, k, m, shares, words, shares - 1, (tp_answer){TP_OUTPUT_ROOM, 0});
+    size_t shares = TP_POLYNOMIAL_SHARES(n, m), words = TP_POLYNOMIAL_WORDS(n, k, m), work = TP_SAMPLE_WORK(n);
+    polynomial_zeros(n, k, m, shares, words, shares, work, (tp_answer){TP_ACCEPTED, words});
+    polynomial_zeros(n, k, m, shares - 1, words, shares, work, (tp_answer){TP_X_COUNT, 0});
+    polynomial_zeros(n, k, m, shares + 1, words, shares, work, (tp_answer){TP_X_COUNT, 0});
+    polynomial_zeros(n, k, m, shares, words - 1, shares, work, (tp_answer){TP_WORD_COUNT, 0});
+    polynomial_zeros(n, k, m, shares, words, shares - 1, work, (tp_answer){TP_OUTPUT_ROOM, 0});
+    polynomial_zeros(n, k, m, shares, words, shares, work - 1, (tp_answer){TP_WORK_ROOM, 0});
 }
 
 static void polynomial_unfit(size_t m)
 {
     size_t shares = TP_POLYNOMIAL_SHARES(2, m);
-    polynomial_zeros(2, 1, m, shares, TP_POLYNOMIAL_WORDS(2, 1, m), shares, (tp_answer){TP_COEFFICIENT_COUNT, 0});
+    polynomial_zeros(2, 1, m, shares, TP_POLYNOMIAL_WORDS(2, 1, m), shares, TP_SAMPLE_WORK(2), (tp_answer){TP_COEFFICIENT_COUNT, 0});
 }
 
 /* Noise of zeros. */
@@ -101,9 +101,9 @@ static void all_sizes(void)
 
 static void limits(void)
 {
-    size_t work = TP_SAMPLE_WORK(TP_MAX_SHARES, TP_MAX_BITS);
+    size_t work = TP_SAMPLE_WORK(TP_MAX_SHARES + 1);
     CHECK(TP_SAMPLE_WORDS(TP_MAX_SHARES, TP_MAX_BITS) == TP_MAX_WORDS);
-    CHECK(TP_BIT_WORDS(1 + 2) == 6 && TP_SAMPLE_WORDS(1 + 1, 1 + 2) == 12 && TP_SAMPLE_WORK(1 + 1, 1 + 2) == 12 && TP_TEXT_ROOM(1 + 1) == 51);
+    CHECK(TP_BIT_WORDS(1 + 2) == 6 && TP_SAMPLE_WORDS(1 + 1, 1 + 2) == 12 && 2 * TP_SAMPLE_WORK(1 + 1) == 4 && TP_TEXT_ROOM(1 + 1) == 51);
     CHECK(TP_POLYNOMIAL_SHARES(1 + 1, 1 + 2) == 6 && TP_POLYNOMIAL_WORDS(1 + 1, 1 + 2, 1 + 1) == 24);
     CHECK(TP_NOISE_BYTES(1 + 1, 1 + 2) == 384 && TP_NOISE_SHARES(1 + 1) == 512);
     sample_zeros(TP_MIN_SHARES - 1, 1, TP_MAX_WORDS, 0, work, (tp_answer){TP_SHARE_COUNT, 0});

@@ -69,21 +69,21 @@ static void bits_inside(void)
 static void samples_inside(void)
 {
     const struct sample_start cases[] = {
-        START(4, 2, 1, 17, LIST(1, 0), LIST(1, 1), LIST(5, 3, 10, 14, 5, 3, 10, 16), 2, 4, {0, 8}, LIST(7, 11)),
-        START(1, 2, 1, 17, LIST(0, 0), LIST(0, 1), LIST(17, 5, 3, 10, 14, 65535), 2, 4, {0, 5}, LIST(7, 9)),
-        START(2, 2, 1, 17, LIST(1, 0), LIST(1, 1), LIST(65535, 17, 5, 3, 10, 16), 2, 4, {0, 6}, LIST(7, 11)),
-        START(3, 3, 1, 17, LIST(1, 0, 1), LIST(0, 0, 0), LIST(17, 17, 17, 1, 2, 3, 4, 5, 6, 0, 0, 0, 0, 0, 0, 17), 3, 6, {0, 15}, LIST(12, 4, 1)),
-        START(1, 3, 1, 17, LIST(0, 0, 0), LIST(1, 0, 1), LIST(17, 0, 0, 0, 0, 0, 0, 1, 2, 3, 4, 5, 6, 17), 3, 6, {0, 13}, LIST(5, 13, 16)),
-        START(2, 2, 1, 17, LIST(1, 0), LIST(1, 1), LIST(17, 17, 17, 3, 10, 16, 17), 2, 4, {9, 2}, NONE),
+        START(4, 2, 1, 17, LIST(1, 0), LIST(1, 1), LIST(5, 3, 10, 14, 5, 3, 10, 16), 2, 2, {0, 8}, LIST(7, 11)),
+        START(1, 2, 1, 17, LIST(0, 0), LIST(0, 1), LIST(17, 5, 3, 10, 14, 65535), 2, 2, {0, 5}, LIST(7, 9)),
+        START(2, 2, 1, 17, LIST(1, 0), LIST(1, 1), LIST(65535, 17, 5, 3, 10, 16), 2, 2, {0, 6}, LIST(7, 11)),
+        START(3, 3, 1, 17, LIST(1, 0, 1), LIST(0, 0, 0), LIST(17, 17, 17, 1, 2, 3, 4, 5, 6, 0, 0, 0, 0, 0, 0, 17), 3, 3, {0, 15}, LIST(12, 4, 1)),
+        START(1, 3, 1, 17, LIST(0, 0, 0), LIST(1, 0, 1), LIST(17, 0, 0, 0, 0, 0, 0, 1, 2, 3, 4, 5, 6, 17), 3, 3, {0, 13}, LIST(5, 13, 16)),
+        START(2, 2, 1, 17, LIST(1, 0), LIST(1, 1), LIST(17, 17, 17, 3, 10, 16, 17), 2, 2, {9, 2}, NONE),
         START(2, 2, 1, 17, LIST(1, 0), LIST(1, 1), LIST(17, 17, 5, 3, 17, 16, 17), 0, 0, {9, 4}, NONE),
-        START(2, 2, 1, 17, LIST(1, 0), LIST(1, 1), LIST(17, 17, 5, 3, 10, 65535, 17), 2, 4, {9, 5}, NONE),
-        START(2, 2, 1, 17, LIST(1, 0), LIST(1, 1), LIST(17, 17, 5, 3, 10, 16, 17), 1, 4, {10, 0}, NONE),
-        START(2, 2, 1, 17, LIST(1, 0), LIST(1, 1), LIST(17, 17, 5, 3, 10, 16, 17), 2, 3, {11, 0}, NONE),
-        START(0, 2, 1, 17, LIST(1, 0), LIST(1, 1), NONE, 2, 4, {8, 0}, NONE),
-        START(1, 2, 1, 17, LIST(1, 0), LIST(1, 1), NONE, 2, 4, {8, 0}, NONE),
-        START(SIZE_MAX, 2, 1, 17, LIST(1, 0), LIST(1, 1), NONE, 2, 4, {8, 0}, NONE),
-        START(SIZE_MAX, 2, 1, 17, LIST(1, 0), LIST(1, 1), LIST(5, 3, 10), 2, 4, {8, 0}, NONE),
-        START(SIZE_MAX, 2, 1, 17, LIST(1, 0), LIST(1, 2), LIST(5, 3, 10, 16), 2, 4, {7, 1}, NONE),
+        START(2, 2, 1, 17, LIST(1, 0), LIST(1, 1), LIST(17, 17, 5, 3, 10, 65535, 17), 2, 2, {9, 5}, NONE),
+        START(2, 2, 1, 17, LIST(1, 0), LIST(1, 1), LIST(17, 17, 5, 3, 10, 16, 17), 1, 2, {10, 0}, NONE),
+        START(2, 2, 1, 17, LIST(1, 0), LIST(1, 1), LIST(17, 17, 5, 3, 10, 16, 17), 2, 1, {11, 0}, NONE),
+        START(0, 2, 1, 17, LIST(1, 0), LIST(1, 1), NONE, 2, 2, {8, 0}, NONE),
+        START(1, 2, 1, 17, LIST(1, 0), LIST(1, 1), NONE, 2, 2, {8, 0}, NONE),
+        START(SIZE_MAX, 2, 1, 17, LIST(1, 0), LIST(1, 1), NONE, 2, 2, {8, 0}, NONE),
+        START(SIZE_MAX, 2, 1, 17, LIST(1, 0), LIST(1, 1), LIST(5, 3, 10), 2, 2, {8, 0}, NONE),
+        START(SIZE_MAX, 2, 1, 17, LIST(1, 0), LIST(1, 2), LIST(5, 3, 10, 16), 2, 2, {7, 1}, NONE),
     };
     sample_all(cases, COUNT(cases));
 }
@@ -119,7 +119,7 @@ static void samples_too_far(size_t n, size_t k)
     fill(high, len, 65535);
     for (size_t i = 0; i < COUNT(starts); i++) {
         const struct sample_start cases[] = {
-            START(starts[i], n, k, 65535, {fit, n}, {fit, n}, {fit, len}, n, 2 * k * n, {8, 0}, NONE),
+            START(starts[i], n, k, 65535, {fit, n}, {fit, n}, {fit, len}, n, n, {8, 0}, NONE),
             START(starts[i], n, k, 65535, {fit, n}, {fit, n}, {high, len}, 0, 0, {8, 0}, NONE),
         };
         sample_all(cases, COUNT(cases));
@@ -139,9 +139,9 @@ static void far_inside(void)
         START(FAR + 4, 2, 17, LIST(1, 0), {words, LEN}, 2, {8, 0}, NONE),
     };
     const struct sample_start samples[] = {
-        START(FAR, 2, 1, 17, LIST(1, 0), LIST(1, 1), {words, LEN}, 2, 4, {0, FAR + 4}, LIST(7, 11)),
-        START(FAR + 1, 2, 1, 17, LIST(1, 0), LIST(1, 1), {words, LEN}, 2, 4, {9, FAR + 4}, NONE),
-        START(FAR + 2, 2, 1, 17, LIST(1, 0), LIST(1, 1), {words, LEN}, 2, 4, {8, 0}, NONE),
+        START(FAR, 2, 1, 17, LIST(1, 0), LIST(1, 1), {words, LEN}, 2, 2, {0, FAR + 4}, LIST(7, 11)),
+        START(FAR + 1, 2, 1, 17, LIST(1, 0), LIST(1, 1), {words, LEN}, 2, 2, {9, FAR + 4}, NONE),
+        START(FAR + 2, 2, 1, 17, LIST(1, 0), LIST(1, 1), {words, LEN}, 2, 2, {8, 0}, NONE),
     };
     convert_all(bits, COUNT(bits));
     sample_all(samples, COUNT(samples));
@@ -152,11 +152,11 @@ static void walk(void)
 {
     static const uint16_t words[] = {17, 5, 3, 10, 16, 5, 3, 10, 14, 5, 3, 10, 16, 1, 2, 3, 4, 5, 6, 0, 0, 0, 0, 0, 0, 65535};
     const list all = {words, COUNT(words)};
-    const struct sample_case a = CASE(2, 1, 17, LIST(1, 0), LIST(1, 1), all, 2, 4, {0, 5}, LIST(7, 11));
-    const struct sample_case b = CASE(2, 1, 17, LIST(0, 0), LIST(0, 1), all, 2, 4, {0, 9}, LIST(7, 9));
+    const struct sample_case a = CASE(2, 1, 17, LIST(1, 0), LIST(1, 1), all, 2, 2, {0, 5}, LIST(7, 11));
+    const struct sample_case b = CASE(2, 1, 17, LIST(0, 0), LIST(0, 1), all, 2, 2, {0, 9}, LIST(7, 9));
     const struct bit_case x = CASE(2, 17, LIST(1, 0), all, 2, {0, 11}, LIST(16, 2));
     const struct bit_case y = CASE(2, 17, LIST(1, 1), all, 2, {0, 13}, LIST(9, 8));
-    const struct sample_case d = CASE(3, 1, 17, LIST(1, 0, 1), LIST(0, 0, 0), all, 3, 6, {0, 25}, LIST(12, 4, 1));
+    const struct sample_case d = CASE(3, 1, 17, LIST(1, 0, 1), LIST(0, 0, 0), all, 3, 3, {0, 25}, LIST(12, 4, 1));
     const struct bit_case last = CASE(2, 17, LIST(1, 0), all, 2, {8, 0}, NONE);
     uint16_t shares[SHARES];
     begin_case(__FILE__, __LINE__);
@@ -181,9 +181,9 @@ static void walk_pieces(size_t n, size_t k, uint16_t q)
         uint16_t x[SHARES], y[SHARES], alone[SHARES], shares[SHARES];
         draw(x, n, 1u << k);
         draw(y, n, 1u << k);
-        struct sample_case c = CASE(n, k, q, {x, n}, {y, n}, {words + t * used, used}, n, 2 * k * n, {0, used}, NONE);
+        struct sample_case c = CASE(n, k, q, {x, n}, {y, n}, {words + t * used, used}, n, n, {0, used}, NONE);
         sample(&c, FRONT, 0, alone);
-        struct sample_case on = CASE(n, k, q, {x, n}, {y, n}, {words, PIECES * used}, n, 2 * k * n, {0, (t + 1) * used}, {alone, n});
+        struct sample_case on = CASE(n, k, q, {x, n}, {y, n}, {words, PIECES * used}, n, n, {0, (t + 1) * used}, {alone, n});
         at = sample(&on, (origin){SPARE, at}, SPARE, shares);
     }
     CHECK(at == SPARE + PIECES * used);
@@ -199,7 +199,7 @@ static void walk_bits(size_t n, size_t k, uint16_t q)
     draw(words, used, q);
     draw(strings[0], n, 1u << k);
     draw(strings[1], n, 1u << k);
-    struct sample_case c = CASE(n, k, q, {strings[0], n}, {strings[1], n}, {words, used}, n, 2 * k * n, {0, used}, NONE);
+    struct sample_case c = CASE(n, k, q, {strings[0], n}, {strings[1], n}, {words, used}, n, n, {0, used}, NONE);
     size_t end = sample(&c, WITHIN, SPARE, sampled);
     for (size_t row = 0; row < 2 * k; row++) {
         uint16_t bits[SHARES], shares[SHARES];
