@@ -1,13 +1,13 @@
 -- Laws of a list of which a part was overwritten.
 use mathlib.Core.Path.{_≡_, refl, sym, ap, _∙_}
 use mathlib.Core.List.{List, [], _∷_, _++_, append-assoc, append-nil}
-use Prim.Native.Nat.{ℕ, suc, _+_, _≤_, _<_}
+use Prim.Native.Nat.{ℕ, suc, _+_, _-_, _≤_, _<_}
 use native.Mathlib.Nat as N
 use native.Mathlib.Numerals.{add-one}
 use native.Mathlib.Decide.{decLe}
 use native.Mathlib.Omega.{arith}
 use lib.ListN.{length, getD, set, take, drop, length-append, drop-of-length-le, List·getD-append}
-use lib.Seq.{length-take-le, take-all, take-length, take-at, drop-at, drop-append-add, drop-drop, drop-cons, set-at, append-snoc, paste, paste-zero, paste-suc, length-paste}
+use lib.Seq.{getD-drop, getD-append-add, length-take-le, take-all, take-length, take-at, drop-at, drop-append-add, drop-drop, drop-cons, set-at, append-snoc, paste, paste-zero, paste-suc, length-paste}
 use Rattle.buffers.specs.Overwrite.{overwrite}
 
 -- ---- one element at a time: s is written as far as its first i elements
@@ -85,6 +85,20 @@ module _ (l s : List ℕ) where
       rw (front l s, front l (s ++ (v ∷ [])), e, drop-cons l (length s) 0 h)
       (set-at s (getD l (length s) 0) rest v (length s) refl ∙ sym (append-snoc s v rest))
 
+  pub front-from : (i : ℕ) → length s ≤ i → getD (overwrite l 0 s) i 0 ≡ getD l i 0
+  front-from i h =
+      let e : i ≡ length s + (i - length s) = omega arith in
+      ap (λ (k : List ℕ). getD k i 0) (front l s) ∙ ap (λ (j : ℕ). getD (s ++ drop (length s) l) j 0) e ∙ getD-append-add s (drop (length s) l) (i - length s) 0
+      ∙ getD-drop (length s) l (i - length s) 0 ∙ ap (λ (j : ℕ). getD l j 0) (sym e)
+
   -- of a list of which only the front was changed before
   pub front-again : (t : List ℕ) (n : ℕ) → length s ≡ n → drop n t ≡ drop n l → overwrite t 0 s ≡ overwrite l 0 s
   front-again t n e d = front t s ∙ ap (λ (r : List ℕ). s ++ r) (rw e d) ∙ sym (front l s)
+
+-- the one front over the other, which is not longer
+pub front-over : (l s r : List ℕ) → length s ≤ length r → overwrite (overwrite l 0 s) 0 r ≡ overwrite l 0 r
+front-over l s r h =
+    let d : ℕ = length r - length s in
+    let e : length r ≡ length s + d = omega arith in
+    front-again l r (overwrite l 0 s) (length r) refl
+    (rw (e, front l s) (drop-append-add s (drop (length s) l) d ∙ drop-drop d (length s) l))

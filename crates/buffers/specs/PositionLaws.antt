@@ -8,11 +8,11 @@ use native.Mathlib.Nat.{suc-inj, suc-ne-zero, not-suc-le-zero, le-of-suc-le-suc}
 use native.Mathlib.Decide.{decLt, ℕ-discrete}
 use native.Mathlib.Omega.{arith}
 use borrow.Author.Tests.{lt-ltb, le-ltb}
-use lib.ListN.{length, set, take, drop, List·getD-eq-default}
-use lib.Seq.{getD-set-same, getD-set-other, getD-take, getD-drop, take-all}
+use lib.ListN.{length, set, take, drop, replicate, length-replicate, getD-replicate, List·getD-eq-default}
+use lib.Seq.{getD-set-same, getD-set-other, getD-take, getD-drop}
 use Rattle.residue.specs.Residue.{EachBelow}
 use Rattle.buffers.specs.Overwrite.{overwrite}
-use Rattle.buffers.specs.Laws.{front-below}
+use Rattle.buffers.specs.Laws.{length-overwrite, front-below, front-from}
 use Rattle.buffers.specs.Positions.{at, table, after, join, Same, Below}
 
 pub after-zero : (f : ℕ → ℕ) → after 0 f ≡ f
@@ -98,6 +98,24 @@ set-agrees l i v f h e j a = go (ℕ-discrete j i)
 pub take-same : (n : ℕ) (l m : List ℕ) → take n l ≡ take n m → Same n (at l) (at m)
 take-same n l m e i h = sym (getD-take n l i 0 h) ∙ ap (λ (r : List ℕ). at r i) e ∙ getD-take n m i 0 h
 
--- a list that was copied to the front of another, none of it cut off
-pub front-same : (l s t : List ℕ) (n : ℕ) → t ≡ overwrite l 0 (take n s) → length s ≤ n → Same (length s) (at t) (at s)
-front-same l s t n e h i m = ap (λ (r : List ℕ). at r i) (e ∙ ap (overwrite l 0) (take-all n s h)) ∙ front-below l s i m
+pub front-zeros : (l : List ℕ) (n : ℕ) → Same n (at (overwrite l 0 (replicate n 0))) (λ i. 0)
+front-zeros l n i h = front-below l (replicate n 0) i (omega (arith, length-replicate {A = ℕ} n 0)) ∙ getD-replicate {A = ℕ} n i 0 0 h
+
+module _ (l : List ℕ) (n : ℕ) (f : ℕ → ℕ) where
+  pub front-at : Same n (at (overwrite l 0 (table n f))) f
+  front-at i h = front-below l (table n f) i (omega (arith, length-table n f)) ∙ table-at n f i h
+
+  pub front-behind : (i : ℕ) → n ≤ i → at (overwrite l 0 (table n f)) i ≡ at l i
+  front-behind i h = front-from l (table n f) i (omega (arith, length-table n f))
+
+  pub front-length : n ≤ length l → length (overwrite l 0 (table n f)) ≡ length l
+  front-length h = length-overwrite l 0 (table n f) (omega (arith, length-table n f))
+
+  -- a list that has the values of f in front, and those of l behind
+  pub front-values : (m : List ℕ) → n ≤ length l → length m ≡ length l → Same n (at m) f → ((i : ℕ) → n ≤ i → at m i ≡ at l i) → m ≡ overwrite l 0 (table n f)
+  front-values m h e a b =
+      sym (table-list (length l) m e) ∙ table-same (length l) _ _ (λ i k. go i (decLt i n)) ∙ table-list (length l) (overwrite l 0 (table n f)) (front-length h)
+    where
+      go : (i : ℕ) → Dec (i < n) → at m i ≡ at (overwrite l 0 (table n f)) i
+      go i (yes k) = a i k ∙ sym (front-at i k)
+      go i (no k) = b i (omega arith) ∙ sym (front-behind i (omega arith))

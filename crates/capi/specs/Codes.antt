@@ -68,9 +68,9 @@ module _ (code position : ℕ) where
   split-noise-code n number bytes x y e = numbered _ (noiseChecks n number bytes (length x) (length y)) refl (sym (settled-answer _ _ _) ∙ e)
 
   -- the calls that write a text about a lesson file ask the same of their buffers
-  text-code : (room : ℕ) (piece file words text : List ℕ) → pieceWritten room piece file words (replicate 8 0) (replicate 256 0) text .answer ≡ refused code position → 0 < code
+  text-code : (room : ℕ) (piece file words text : List ℕ) → pieceWritten room piece file words (replicate 8 0) (replicate 8 0) text .answer ≡ refused code position → 0 < code
   unfolding pieceWritten
-  text-code room piece file words text e = numbered _ (callChecks room (length words) 8 256 (length text)) refl (sym (settled-answer _ _ _) ∙ e)
+  text-code room piece file words text e = numbered _ (callChecks room (length words) 8 8 (length text)) refl (sym (settled-answer _ _ _) ∙ e)
 
   pub lesson-text-code : (file words text : List ℕ) → lessonTextWritten file words text .answer ≡ refused code position → 0 < code
   lesson-text-code file words text = text-code (textRoom (length file)) (lessonText file) file words text

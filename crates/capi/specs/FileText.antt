@@ -19,7 +19,7 @@ abbrev pub lent : Outcome ℕ Buffers → Outcome ℕ WordsAndText
 lent o = record { answer = o .answer; buffers = wordsAndText (o .buffers .sample .words) (o .buffers .text) }
 
 abbrev pub lessonTextWritten : List ℕ → List ℕ → List ℕ → Outcome ℕ WordsAndText
-lessonTextWritten file words text = lent (textWritten file words (replicate 8 0) (replicate 256 0) text)
+lessonTextWritten file words text = lent (textWritten file words (replicate 8 0) (replicate 8 0) text)
 
 abbrev pub reportTextWritten : List ℕ → List ℕ → List ℕ → Outcome ℕ WordsAndText
-reportTextWritten file words text = lent (reportWritten file words (replicate 8 0) (replicate 256 0) text)
+reportTextWritten file words text = lent (reportWritten file words (replicate 8 0) (replicate 8 0) text)

@@ -252,7 +252,7 @@ pub extern "C" fn tp_lesson_text(file: &[u8], words: &mut [Word], text: &mut [u8
     ensures { λ r. ⌜ returned r (wordsAndText (now (words .exit)) (now (text .exit))) ≡ answered (lessonTextWritten (now (file .entry)) (now (words .entry)) (now (text .entry))) ⌝ }
 {
     let mut out: [Word; 8] = [0; 8];
-    let mut work: [Word; 256] = [0; 256];
+    let mut work: [Word; 8] = [0; 8];
     answer(lesson::write_text(file, words, &mut out, &mut work, text))
 }
 
@@ -261,6 +261,6 @@ pub extern "C" fn tp_report_text(file: &[u8], words: &mut [Word], text: &mut [u8
     ensures { λ r. ⌜ returned r (wordsAndText (now (words .exit)) (now (text .exit))) ≡ answered (reportTextWritten (now (file .entry)) (now (words .entry)) (now (text .entry))) ⌝ }
 {
     let mut out: [Word; 8] = [0; 8];
-    let mut work: [Word; 256] = [0; 256];
+    let mut work: [Word; 8] = [0; 8];
     answer(report::write_text(file, words, &mut out, &mut work, text))
 }

@@ -4,7 +4,6 @@ use Prim.Native.Nat.{ℕ}
 use lib.ListN.{length, replicate}
 use Rattle.buffers.specs.Overwrite.{overwrite}
 use Rattle.checks.specs.Checks.{Check, verdict, Outcome, settled, atLeast}
-use Rattle.sampler.specs.Sampler.{workLength}
 use Rattle.lesson_file.specs.Records.{Sample}
 use Rattle.lesson_samples.specs.Lesson.{sharesOf, Lesson, lesson, Ending, complete, unread, unfit}
 
@@ -23,7 +22,7 @@ loaded s b = sampleBuffers (overwrite (b .words) 0 (s .words)) (b .out) (b .work
 
 -- and an accepted sample leaves its shares in the output, and zeros in the work area
 abbrev pub sampledIn : Sample → SampleBuffers → SampleBuffers
-sampledIn s b = sampleBuffers (overwrite (b .words) 0 (s .words)) (overwrite (b .out) 0 (sharesOf s)) (overwrite (b .work) 0 (replicate (workLength (s .n) (s .k)) 0))
+sampledIn s b = sampleBuffers (overwrite (b .words) 0 (s .words)) (overwrite (b .out) 0 (sharesOf s)) (overwrite (b .work) 0 (replicate (s .n) 0))
 
 unfoldable pub afterSamples : List Sample → SampleBuffers → SampleBuffers
 afterSamples [] b = b
@@ -37,9 +36,9 @@ afterEnding (unfit s code position) b = loaded s b
 unfoldable pub afterLesson : Lesson → SampleBuffers → SampleBuffers
 afterLesson l b = afterEnding (l .ending) (afterSamples (l .samples) b)
 
--- 8: 1,792 words; 10: eight shares, and `room` for the text; 11: the rows of sixteen bits of eight shares, twice
+-- 8: 1,792 words; 10: eight shares, and `room` for the text; 11: the totals of eight shares
 abbrev pub callChecks : ℕ → ℕ → ℕ → ℕ → ℕ → List Check
-callChecks room words out work text = atLeast 8 1792 words ∷ atLeast 10 8 out ∷ atLeast 10 room text ∷ atLeast 11 256 work ∷ []
+callChecks room words out work text = atLeast 8 1792 words ∷ atLeast 10 8 out ∷ atLeast 10 room text ∷ atLeast 11 8 work ∷ []
 
 pub record Buffers : Type 0 where
   pub sample : SampleBuffers

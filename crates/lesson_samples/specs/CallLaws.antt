@@ -24,7 +24,7 @@ use Rattle.lesson_samples.specs.Steps.{SampleRoom}
 pub call-room : (room words out work text : ℕ) (r : Checked) → checkedReading r ≡ checked (callChecks room words out work text) → r ≡ Passed → SampleRoom words out work × (room ≤ text)
 call-room room words out work text r e i =
     let h = checks-hold (callChecks room words out work text) r e i in
-    (record { word-room = leb-true _ _ (h .0); share-room = leb-true _ _ (h .1 .0); row-room = leb-true _ _ (h .1 .1 .1 .0) }, leb-true _ _ (h .1 .1 .0))
+    (record { word-room = leb-true _ _ (h .0); share-room = leb-true _ _ (h .1 .0); total-room = leb-true _ _ (h .1 .1 .1 .0) }, leb-true _ _ (h .1 .1 .0))
 
 module _ (room : ℕ) (piece file words out work text : List ℕ) where
   -- what the checks settle
@@ -43,7 +43,7 @@ module _ (room : ℕ) (piece file words out work text : List ℕ) where
   call-accepted s h =
       settled-answer _ _ _
       ∙ accepts _ (callChecks room (length words) (length out) (length work) (length text))
-      (le-leb 1792 (length words) (s .word-room), (le-leb 8 (length out) (s .share-room), (le-leb room (length text) h, (le-leb 256 (length work) (s .row-room), tt))))
+      (le-leb 1792 (length words) (s .word-room), (le-leb 8 (length out) (s .share-room), (le-leb room (length text) h, (le-leb 8 (length work) (s .total-room), tt))))
 
   -- what a caller learns from the answer
   module _ (a : Answer) (b : Buffers) (e : outcome a b ≡ pieceWritten room piece file words out work text) where

@@ -9,7 +9,7 @@ use lib.ListN.{length}
 use Rattle.buffers.specs.Overwrite.{overwrite}
 use Rattle.checks.specs.Checks.{Check, accepted, refused, verdict, settled, parameterChecks, exactly, roomChecks}
 use Rattle.checks.specs.Laws.{Hold, pass, accepted-holds, accepted-answer, passes-part, passes-behind, settled-done, settled-refused, settled-accepted, within-true}
-use Rattle.sampler.specs.Sampler.{sampleWords, workLength, sampleChecks, both, sampled}
+use Rattle.sampler.specs.Sampler.{sampleWords, sampleChecks, both, sampled}
 use Rattle.sampler.specs.Accepted.{small}
 use Rattle.checks.specs.declared.Refusal.{Refusal}
 use Rattle.checks.specs.declared.Answer.{Answer}
@@ -34,11 +34,11 @@ module _ (file : List ℕ) (l : Layout) (w : WholeSample file l) (b : SampleBuff
   abbrev checks : List Check
   checks = sampleChecks (s .n) (s .k) (s .q) (s .x) (s .y) (s .words) 0 (length (b .out)) (length (b .work))
 
-  room : Hold (roomChecks (s .n) (length (b .out)) (workLength (s .n) (s .k)) (length (b .work)))
+  room : Hold (roomChecks (s .n) (length (b .out)) (s .n) (length (b .work)))
   unfolding sampleOf
   room =
       let eight = within-true 2 8 (s .n) (w .parameters .0) .1 in
-      (le-leb (s .n) (length (b .out)) (omega (arith, eight, r .share-room)), (le-leb (workLength (s .n) (s .k)) (length (b .work)) (omega (arith, small (s .n) (s .k) eight (within-true 1 16 (s .k) (w .parameters .1 .0) .1) .rows, r .row-room)), tt))
+      (le-leb (s .n) (length (b .out)) (omega (arith, eight, r .share-room)), (le-leb (s .n) (length (b .work)) (omega (arith, eight, r .total-room)), tt))
 
   -- the sampler's first checks hold, and so do its last
   others-decide : verdict checks end ≡ verdict (otherChecks s) end
@@ -47,7 +47,7 @@ module _ (file : List ℕ) (l : Layout) (w : WholeSample file l) (b : SampleBuff
       passes-part end (parameterChecks (s .n) (s .k) (s .q)) _ (w .parameters)
       ∙ pass end (exactly 4 (s .n) (s .x)) _ (eq-eqb _ _ (length-words file _ _))
       ∙ pass end (exactly 5 (s .n) (s .y)) _ (eq-eqb _ _ (length-words file _ _))
-      ∙ passes-behind end (otherChecks s) (roomChecks (s .n) (length (b .out)) (workLength (s .n) (s .k)) (length (b .work))) room
+      ∙ passes-behind end (otherChecks s) (roomChecks (s .n) (length (b .out)) (s .n) (length (b .work))) room
 
   -- what the code learns from the sampler's answer
   module _ (words out work : List ℕ) (m : words ≡ overwrite (b .words) 0 (s .words)) (a : Answer) (e : outcome a (both out work) ≡ sampled (s .n) (s .k) (s .q) (s .x) (s .y) (s .words) 0 (b .out) (b .work)) where

@@ -12,11 +12,11 @@ use Rattle.lesson_samples.specs.Lesson.{valueOf, fitChecks}
 use Rattle.lesson_samples.specs.Call.{SampleBuffers, loaded, sampledIn}
 use Rattle.lesson_samples.specs.declared.Sampled.{Sampled}
 
--- room for every sample: 1,792 words, eight shares, and the rows of twice sixteen bits of eight shares
+-- room for every sample: 1,792 words, eight shares and their totals
 pub record SampleRoom (words out work : ℕ) : Type 0 where
   pub word-room : 1792 ≤ words
   pub share-room : 8 ≤ out
-  pub row-room : 256 ≤ work
+  pub total-room : 8 ≤ work
 
 -- the parameters of a sample, how many words it takes, its value, and what follows it in the file
 abbrev pub sampledAt : List ℕ → Layout → Sampled

@@ -178,7 +178,7 @@ pub fn check_buffers(room: usize, words: usize, out: usize, area: usize, text: u
     if text < room {
         return checks::refuse(checks::OUTPUT_ROOM, 0);
     }
-    if area < 256 {
+    if area < 8 {
         return checks::refuse(checks::WORK_ROOM, 0);
     }
     Checked::Passed

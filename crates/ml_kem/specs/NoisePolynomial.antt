@@ -13,7 +13,7 @@ use Rattle.masking.specs.Sharing.{xorAll, openedResidue}
 use Rattle.binomial.specs.Signed.{differenceOfWeights}
 use Rattle.conversion.specs.Arrays.{full-drawn}
 use Rattle.secrecy.specs.Secrecy.{Full, Indistinguishable}
-use Rattle.sampler.specs.Sampler.{Buffers, workLength}
+use Rattle.sampler.specs.Sampler.{Buffers}
 use Rattle.sampler.specs.Secrecy.{Room}
 use Rattle.sampler.specs.Accepted.{fit-holds}
 use Rattle.polynomial.specs.Polynomial.{polynomialWords, stringsChecks, sampledPolynomial}
@@ -68,9 +68,9 @@ module _ (n number : ℕ) where
       (h .0, (f .0, (f .1 .0, (true-within 1 256 256 (omega arith) (omega arith), noise.call-shares n number (s .bytes) (s .x-before) (s .y-before) h))))
 
   -- After an accepted split, with any full list of words, the polynomial call is accepted, and opens to SamplePolyCBD of the opened bytes.
-  pub noise-polynomial : (s : AcceptedSplit) (words out work : List ℕ) → Full q W words → Room (256 * n) (workLength n k) out work → Opens n k q (samplePolyCBD q k (openedBytes n k (s .bytes))) (sampledNoise s words out work)
+  pub noise-polynomial : (s : AcceptedSplit) (words out work : List ℕ) → Full q W words → Room (256 * n) n out work → Opens n k q (samplePolyCBD q k (openedBytes n k (s .bytes))) (sampledNoise s words out work)
   noise-polynomial s words out work full room =
-      let h = fit-holds (stringsChecks n k q 256 (xOf s) (yOf s)) 0 W q words (256 * n) (workLength n k) out work (strings s) (full-drawn full) room in
+      let h = fit-holds (stringsChecks n k q 256 (xOf s) (yOf s)) 0 W q words (256 * n) n out work (strings s) (full-drawn full) room in
       record {
         count = ap (λ (o : Outcome ℕ Buffers). o .answer) (polynomial.call-accepted n k q 256 (xOf s) (yOf s) words out work h);
         coefficient = λ t l.
@@ -82,7 +82,7 @@ module _ (n number : ℕ) where
   -- And of two accepted splits, no n - 1 shares of each coefficient tell the one from the other: a one-to-one map of the full lists of words makes
   -- the two polynomial calls alike in all shares but one in each coefficient.
   pub noise-secrecy : (ℓ : ℕ → ℕ) → ((t : ℕ) → t < 256 → ℓ t < n) → (s s′ : AcceptedSplit)
-      → Indistinguishable (Full q W) (λ words words′. (out work out′ work′ : List ℕ) → Room (256 * n) (workLength n k) out work → Room (256 * n) (workLength n k) out′ work′
+      → Indistinguishable (Full q W) (λ words words′. (out work out′ work′ : List ℕ) → Room (256 * n) n out work → Room (256 * n) n out′ work′
       → AlikeBut ℓ n k q 256 (xOf s) (yOf s) words (sampledNoise s words out work) (xOf s′) (yOf s′) words′ (sampledNoise s′ words′ out′ work′))
   unfolding PolynomialSecrecy
   noise-secrecy ℓ left-out s s′ = secrecy n k q 256 ℓ left-out (xOf s) (yOf s) (xOf s′) (yOf s′) (accepts tt _ (strings s)) (accepts tt _ (strings s′))

@@ -12,7 +12,7 @@ use Rattle.buffers.specs.Blocks.{block-fits, length-block, block-below}
 use Rattle.checks.specs.Search.{firstNotBelow}
 use Rattle.checks.specs.Checks.{isNone}
 use Rattle.checks.specs.Laws.{Hold, within-true, none-each-below, each-below-none}
-use Rattle.sampler.specs.Sampler.{workLength, pairChecks}
+use Rattle.sampler.specs.Sampler.{pairChecks}
 use Rattle.sampler.specs.Accepted.{Small, small, SharedPair, shared-pair, words-some, fit-first}
 use Rattle.polynomial.specs.Polynomial.{polynomialWords, stringsChecks, polynomialChecks}
 
@@ -68,4 +68,4 @@ module _ (n k q m : ℕ) (x y : List ℕ) where
       block-narrow l e t = ap isNone (each-below-none (2 ^ k) (block n t l) 0 (block-below n l (2 ^ k) t (none-each-below (2 ^ k) l 0 e)))
 
   pub call-strings : (words out work : List ℕ) → Hold (polynomialChecks n k q m x y words (length out) (length work)) → SharedStrings n k q m x y
-  call-strings words out work h = shared-strings (fit-first (stringsChecks n k q m x y) 0 (polynomialWords n k m) q words (m * n) (workLength n k) out work h)
+  call-strings words out work h = shared-strings (fit-first (stringsChecks n k q m x y) 0 (polynomialWords n k m) q words (m * n) n out work h)

@@ -13,7 +13,7 @@ use Rattle.checks.specs.Checks.{Outcome, accepted}
 use Rattle.checks.specs.Laws.{Hold}
 use Rattle.masking.specs.Sharing.{xorAll, openedResidue}
 use Rattle.binomial.specs.Signed.{differenceOfWeights, centred, weightDifference}
-use Rattle.sampler.specs.Sampler.{Buffers, both, sampleShares, sampleWords, workLength}
+use Rattle.sampler.specs.Sampler.{Buffers, both, sampleShares, sampleWords}
 use Rattle.sampler.specs.Secrecy.{SharesOf}
 use Rattle.sampler.specs.Accepted.{SharedPair, shared-pair}
 use Rattle.sampler.specs.Calls.{length-shares, shares-of, shares-below}
@@ -61,20 +61,20 @@ module _ (n k q m : ℕ) (x y words out work : List ℕ) (h : Hold (polynomialCh
   strings = call-strings n k q m x y words out work h
 
   -- is accepted with m × W; its shares stand in front of the output, and zeros in front of the work area
-  pub call-accepted : sampledPolynomial n k q m x y words out work ≡ record { answer = accepted (polynomialWords n k m); buffers = both (overwrite out 0 (polynomialShares n k q m x y words)) (overwrite work 0 (replicate (workLength n k) 0)) }
+  pub call-accepted : sampledPolynomial n k q m x y words out work ≡ record { answer = accepted (polynomialWords n k m); buffers = both (overwrite out 0 (polynomialShares n k q m x y words)) (overwrite work 0 (replicate n 0)) }
   unfolding sampledPolynomial
-  call-accepted = written-accepted _ (polynomialWords n k m) (polynomialShares n k q m x y words) (workLength n k) out work h
+  call-accepted = written-accepted _ (polynomialWords n k m) (polynomialShares n k q m x y words) n out work h
 
   pub call-shares : take (m * n) (sampledPolynomial n k q m x y words out work .buffers .out) ≡ polynomialShares n k q m x y words
   unfolding sampledPolynomial
-  call-shares = written-shares _ (polynomialWords n k m) (polynomialShares n k q m x y words) (workLength n k) out work h (m * n) (length-polynomial n k q m x y words)
+  call-shares = written-shares _ (polynomialWords n k m) (polynomialShares n k q m x y words) n out work h (m * n) (length-polynomial n k q m x y words)
 
   pub call-below : EachBelow q (take (m * n) (sampledPolynomial n k q m x y words out work .buffers .out))
   call-below = rw call-shares (polynomial-below strings words)
 
-  pub call-zeroed : take (workLength n k) (sampledPolynomial n k q m x y words out work .buffers .work) ≡ replicate (workLength n k) 0
+  pub call-zeroed : take n (sampledPolynomial n k q m x y words out work .buffers .work) ≡ replicate n 0
   unfolding sampledPolynomial
-  call-zeroed = written-zeros _ (polynomialWords n k m) (polynomialShares n k q m x y words) (workLength n k) out work h
+  call-zeroed = written-zeros _ (polynomialWords n k m) (polynomialShares n k q m x y words) n out work h
 
   -- coefficient t
   module _ (t : ℕ) (l : t < m) where
@@ -101,25 +101,25 @@ module _ (n k q m : ℕ) (x y words out work : List ℕ) where
   -- output positions past m × n keep their content
   pub out-kept : drop (m * n) (sampledPolynomial n k q m x y words out work .buffers .out) ≡ drop (m * n) out
   unfolding sampledPolynomial
-  out-kept = written-out-kept _ (polynomialWords n k m) (polynomialShares n k q m x y words) (workLength n k) out work (m * n) (length-polynomial n k q m x y words)
+  out-kept = written-out-kept _ (polynomialWords n k m) (polynomialShares n k q m x y words) n out work (m * n) (length-polynomial n k q m x y words)
 
-  -- and work positions past 2kn theirs
-  pub work-kept : drop (workLength n k) (sampledPolynomial n k q m x y words out work .buffers .work) ≡ drop (workLength n k) work
+  -- and so do work positions past n
+  pub work-kept : drop n (sampledPolynomial n k q m x y words out work .buffers .work) ≡ drop n work
   unfolding sampledPolynomial
-  work-kept = written-work-kept _ (polynomialWords n k m) (polynomialShares n k q m x y words) (workLength n k) out work
+  work-kept = written-work-kept _ (polynomialWords n k m) (polynomialShares n k q m x y words) n out work
 
   -- the outcome does not depend on words behind the first m × W
   pub words-behind : (words′ : List ℕ) → take (polynomialWords n k m) words ≡ take (polynomialWords n k m) words′ → sampledPolynomial n k q m x y words out work ≡ sampledPolynomial n k q m x y words′ out work
   unfolding sampledPolynomial
   words-behind words′ e =
-      written-words (stringsChecks n k q m x y) 0 (polynomialWords n k m) q (m * n) (workLength n k) words words′ (polynomialShares n k q m x y words) (polynomialShares n k q m x y words′) out work e
+      written-words (stringsChecks n k q m x y) 0 (polynomialWords n k m) q (m * n) n words words′ (polynomialShares n k q m x y words) (polynomialShares n k q m x y words′) out work e
       (λ h. let S = shared-strings n k q m x y h in (polynomial-some S, polynomial-words S words words′ e)) (polynomialWords n k m)
 
   module _ (out′ work′ : List ℕ) where
     -- the answer depends on the lengths of output and work area, not on what they held
     pub answer-before : length out ≡ length out′ → length work ≡ length work′ → sampledPolynomial n k q m x y words out work .answer ≡ sampledPolynomial n k q m x y words out′ work′ .answer
     unfolding sampledPolynomial
-    answer-before = written-before (polynomialChecks n k q m x y words) (polynomialWords n k m) (polynomialShares n k q m x y words) (workLength n k) out work out′ work′
+    answer-before = written-before (polynomialChecks n k q m x y words) (polynomialWords n k m) (polynomialShares n k q m x y words) n out work out′ work′
 
     -- nor do the shares
     pub shares-before : Hold (polynomialChecks n k q m x y words (length out) (length work)) → Hold (polynomialChecks n k q m x y words (length out′) (length work′))

@@ -9,7 +9,7 @@ use Rattle.buffers.specs.Positions.{block}
 use Rattle.buffers.specs.Blocks.{block-first}
 use Rattle.checks.specs.Checks.{Check, verdict, parameterChecks, shareChecks, bufferChecks}
 use Rattle.checks.specs.Laws.{pass, same-behind}
-use Rattle.sampler.specs.Sampler.{sampleShares, sampleWords, workLength, sampleChecks, sampled}
+use Rattle.sampler.specs.Sampler.{sampleShares, sampleWords, sampleChecks, sampled}
 use Rattle.sampler.specs.Calls.{shares-words, call-written}
 use Rattle.sampler.specs.Written.{written-same}
 use Rattle.polynomial.specs.Polynomial.{coefficientShares, polynomialShares, polynomialWords, coefficientCount, polynomialChecks, sampledPolynomial}
@@ -29,7 +29,7 @@ module _ (n k q : ℕ) (x y words out work : List ℕ) where
 
   -- the checks behind 23
   abbrev others : ℕ → ℕ → List Check
-  others count shares = shareChecks shares k x y ++ bufferChecks 0 count q words shares (length out) (workLength n k) (length work)
+  others count shares = shareChecks shares k x y ++ bufferChecks 0 count q words shares (length out) n (length work)
 
   verdicts : verdict (polynomialChecks n k q 1 x y words (length out) (length work)) (polynomialWords n k 1) ≡ verdict (sampleChecks n k q x y words 0 (length out) (length work)) (0 + sampleWords n k)
   verdicts =
@@ -40,7 +40,7 @@ module _ (n k q : ℕ) (x y words out work : List ℕ) where
   pub one-coefficient : sampledPolynomial n k q 1 x y words out work ≡ sampled n k q x y words 0 out work
   unfolding sampledPolynomial
   one-coefficient =
-      written-same (polynomialChecks n k q 1 x y words (length out) (length work)) (polynomialWords n k 1) (polynomialShares n k q 1 x y words) (workLength n k) out work
+      written-same (polynomialChecks n k q 1 x y words (length out) (length work)) (polynomialWords n k 1) (polynomialShares n k q 1 x y words) n out work
       (sampleChecks n k q x y words 0 (length out) (length work)) (0 + sampleWords n k) (sampleShares n k q x y words)
       (λ h. shares (call-strings n k q 1 x y words out work h)) verdicts
       ∙ sym (call-written n k q x y words 0 out work)

@@ -4,7 +4,7 @@ use Prim.Native.Nat.{ℕ, _*_}
 use lib.ListN.{length}
 use Rattle.buffers.specs.Positions.{at, rows, block}
 use Rattle.checks.specs.Checks.{Check, Outcome, within, parameterChecks, shareChecks, bufferChecks}
-use Rattle.sampler.specs.Sampler.{sampleShares, sampleWords, workLength, Buffers, sharesWritten}
+use Rattle.sampler.specs.Sampler.{sampleShares, sampleWords, Buffers, sharesWritten}
 
 -- ---- the samples
 
@@ -31,8 +31,8 @@ stringsChecks n k q m x y = parameterChecks n k q ++ (coefficientCount m ∷ sha
 
 -- the work area is that of one sample
 abbrev pub polynomialChecks : ℕ → ℕ → ℕ → ℕ → List ℕ → List ℕ → List ℕ → ℕ → ℕ → List Check
-polynomialChecks n k q m x y words room area = stringsChecks n k q m x y ++ bufferChecks 0 (polynomialWords n k m) q words (m * n) room (workLength n k) area
+polynomialChecks n k q m x y words room area = stringsChecks n k q m x y ++ bufferChecks 0 (polynomialWords n k m) q words (m * n) room n area
 
 unfoldable pub sampledPolynomial : ℕ → ℕ → ℕ → ℕ → List ℕ → List ℕ → List ℕ → List ℕ → List ℕ → Outcome ℕ Buffers
 sampledPolynomial n k q m x y words out work =
-    sharesWritten (polynomialChecks n k q m x y words (length out) (length work)) (polynomialWords n k m) (polynomialShares n k q m x y words) (workLength n k) out work
+    sharesWritten (polynomialChecks n k q m x y words (length out) (length work)) (polynomialWords n k m) (polynomialShares n k q m x y words) n out work

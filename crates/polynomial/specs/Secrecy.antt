@@ -6,7 +6,7 @@ use Prim.Native.Nat.{ℕ, _*_, _<_}
 use Rattle.buffers.specs.Positions.{block}
 use Rattle.checks.specs.Checks.{Outcome, accepted, checked}
 use Rattle.secrecy.specs.Secrecy.{Full, Indistinguishable, AgreeBut}
-use Rattle.sampler.specs.Sampler.{Buffers, sampleWords, workLength}
+use Rattle.sampler.specs.Sampler.{Buffers, sampleWords}
 use Rattle.sampler.specs.Secrecy.{SharesOf, Room}
 use Rattle.polynomial.specs.Polynomial.{polynomialWords, stringsChecks, sampledPolynomial}
 
@@ -26,5 +26,5 @@ pub record AlikeBut (ℓ : ℕ → ℕ) (n k q m : ℕ) (x y words : List ℕ) (
 unfoldable pub PolynomialSecrecy : ℕ → ℕ → ℕ → ℕ → Type 0
 PolynomialSecrecy n k q m =
     (ℓ : ℕ → ℕ) → ((t : ℕ) → t < m → ℓ t < n) → (x y x′ y′ : List ℕ) → checked (stringsChecks n k q m x y) ≡ accepted tt → checked (stringsChecks n k q m x′ y′) ≡ accepted tt
-    → Indistinguishable (Full q (polynomialWords n k m)) (λ words words′. (out work out′ work′ : List ℕ) → Room (m * n) (workLength n k) out work → Room (m * n) (workLength n k) out′ work′
+    → Indistinguishable (Full q (polynomialWords n k m)) (λ words words′. (out work out′ work′ : List ℕ) → Room (m * n) n out work → Room (m * n) n out′ work′
     → AlikeBut ℓ n k q m x y words (sampledPolynomial n k q m x y words out work) x′ y′ words′ (sampledPolynomial n k q m x′ y′ words′ out′ work′))

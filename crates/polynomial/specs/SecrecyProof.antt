@@ -6,7 +6,7 @@ use Rattle.conversion.specs.Arrays.{full-drawn}
 use Rattle.secrecy.specs.Secrecy.{AgreeBut}
 use Rattle.secrecy.specs.Laws.{weaken}
 use Rattle.secrecy.specs.Blocks.{blocks}
-use Rattle.sampler.specs.Sampler.{sampleShares, sampleWords, workLength}
+use Rattle.sampler.specs.Sampler.{sampleShares, sampleWords}
 use Rattle.sampler.specs.Accepted.{pair-large, fit-holds}
 use Rattle.sampler.specs.SecrecyProof.{shares-secrecy}
 use Rattle.polynomial.specs.Polynomial.{coefficientShares, polynomialWords, stringsChecks}
@@ -22,8 +22,8 @@ secrecy n k q m ℓ left-out x y x′ y′ a a′ =
     let P = first-pair (shared-strings n k q m x y h) in
     weaken
     (λ v w f g same out work out′ work′ r r′.
-    let c = fit-holds (stringsChecks n k q m x y) 0 (polynomialWords n k m) q v (m * n) (workLength n k) out work h (full-drawn f) r in
-    let c′ = fit-holds (stringsChecks n k q m x′ y′) 0 (polynomialWords n k m) q w (m * n) (workLength n k) out′ work′ h′ (full-drawn g) r′ in
+    let c = fit-holds (stringsChecks n k q m x y) 0 (polynomialWords n k m) q v (m * n) n out work h (full-drawn f) r in
+    let c′ = fit-holds (stringsChecks n k q m x′ y′) 0 (polynomialWords n k m) q w (m * n) n out′ work′ h′ (full-drawn g) r′ in
     record {
       one = call-polynomial n k q m x y v out work c;
       other = call-polynomial n k q m x′ y′ w out′ work′ c′;

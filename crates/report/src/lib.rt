@@ -85,7 +85,7 @@ fn write_report(
 
 // Writes the report of a lesson file in front of `text`, and answers its length; what lies behind it keeps its content. The words of each RW
 // fill the word buffer from the front, and each sample's shares the output.
-// Refuses 8 (fewer than 1,792 words); 10 (fewer than 8 output positions, or fewer than 1,200 text bytes); 11 (fewer than 256 work positions). What is
+// Refuses 8 (fewer than 1,792 words); 10 (fewer than 8 output positions, or fewer than 1,200 text bytes); 11 (fewer than 8 work positions). What is
 // wrong with the file is said in the text.
 pub fn write_text(
     file: &[u8],

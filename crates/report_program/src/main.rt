@@ -16,7 +16,7 @@ fn make_text(buffer: &[u8], count: usize, words: &mut [Word], text: &mut [u8]) -
     ensures { λ r. ⌜ ((input : List ℕ) → Read input (now (buffer .entry)) count → take r (now (text .exit)) ≡ reportText input) × (r ≤ length (now (text .exit))) ⌝ }
 {
     let mut out: [Word; 8] = [0; 8];
-    let mut work: [Word; 256] = [0; 256];
+    let mut work: [Word; 8] = [0; 8];
     if let Answer::Done(length) = report::write_text(
         &buffer[..count],
         words,

@@ -1,105 +1,78 @@
 -- Facts of the code's steps.
-use mathlib.Core.Path.{_≡_, refl, sym, ap, _∙_}
-use mathlib.Core.List.{List, _++_}
+use mathlib.Core.Path.{_≡_, refl, sym, ap, ap₂, _∙_}
+use mathlib.Core.Bool.{Bool, true, false}
+use mathlib.Core.List.{List}
 use Prim.Native.Nat.{ℕ, _+_, _*_, _≤_, _<_}
-use native.Mathlib.Nat as N
+use native.Mathlib.Nat.{le-of-eq}
 use native.Mathlib.Omega.{arith}
-use lib.Arith.{digits-lt}
-use lib.ListN.{length, drop, length-append, List·getD-append}
-use lib.Seq.{getD-append-add}
-use Rattle.residue.specs.Residue.{EachBelow}
-use Rattle.residue.specs.Laws.{sub-cong}
-use Rattle.residue.specs.Sum.{sum-cong, each-below-append}
+use lib.ListN.{length, drop}
 use Rattle.buffers.specs.Overwrite.{overwrite}
-use Rattle.buffers.specs.Laws.{length-overwrite, overwrite-append, front-below, drop-front}
-use Rattle.buffers.specs.Positions.{at, table, rows, after, Same, Below}
-use Rattle.buffers.specs.PositionLaws.{after-at, drop-after, table-same}
-use Rattle.buffers.specs.Rows.{length-rows, rows-at, rows-below}
-use Rattle.checks.specs.Width.{bit-lt}
+use Rattle.buffers.specs.Laws.{front-over}
+use Rattle.buffers.specs.Positions.{at, table, after, Same, Below}
+use Rattle.buffers.specs.PositionLaws.{after-at, drop-after, length-table, table-same, front-at, front-length, front-values}
 use Rattle.conversion.specs.Conversion.{convertBit, bitsAt, bitWords}
-use Rattle.conversion.specs.Laws.{convertBit-local}
-use Rattle.conversion.specs.Arrays.{Drawn}
-use Rattle.sampler.specs.Sampler.{row, stringShare, sampleShare, sampleShares, workLength}
-use Rattle.sampler.specs.Columns.{columnShare}
+use Rattle.sampler.specs.Sampler.{row, stringShare, sampleShare, sampleShares}
+use Rattle.sampler.specs.Totals.{signedSum, signed-lt, signed-none, signed-next, signed-share}
 
--- a row, of the bits of a turn and of words that begin at a position of the list
-pub row-from : (n q t : ℕ) (x b w v : ℕ → ℕ) → 2 < q → 1 ≤ n → Same n b (bitsAt x t) → v ≡ after (t * bitWords n) w → table n (convertBit q n b v) ≡ table n (row q n x w t)
+-- a bit's row, whose words begin at p
+pub row-from : (n q t start p : ℕ) (x v : ℕ → ℕ) (before r : List ℕ) → p ≡ start + t * bitWords n → r ≡ overwrite before 0 (table n (convertBit q n (bitsAt x t) (after p v))) → Same n (at r) (row q n x (after start v) t)
 unfolding row
-row-from n q t x b w v large h same e =
-    let l = bit-lt (x 0) t in
-    table-same n _ _ (convertBit-local q n b (bitsAt x t) v (after (t * bitWords n) w) (rw (same 0 h) (omega arith)) (omega arith) same (λ j l. ap (λ (u : ℕ → ℕ). u j) e))
+row-from n q t start p x v before r e d i h =
+    ap (λ (l : List ℕ). at l i) d ∙ front-at before n _ i h ∙ ap (λ (w : ℕ → ℕ). convertBit q n (bitsAt x t) w i) (after-at start (t * bitWords n) p v e)
 
--- ---- the work area with the rows of both strings
+-- a list written over another that was written over l, each with n values in front
+pub again : (n : ℕ) (f g : ℕ → ℕ) (l m u : List ℕ) → m ≡ overwrite l 0 (table n f) → u ≡ overwrite m 0 (table n g) → u ≡ overwrite l 0 (table n g)
+again n f g l m u e d = d ∙ ap (λ (k : List ℕ). overwrite k 0 (table n g)) e ∙ front-over l _ _ (le-of-eq (length-table n f ∙ sym (length-table n g)))
 
--- column i of row t, in the first half and in the second
-module _ (q n k t i : ℕ) (work : List ℕ) (h : t < k) (l : i < n) (d : Drawn q 0 (workLength n k) work) where
-  pub column-inside : t * n + i < k * n
-  column-inside = digits-lt h l
+-- the totals after t bits of a string, which were those of l before
+abbrev pub totalsOf : ℕ → ℕ → Bool → (ℕ → ℕ) → (ℕ → ℕ) → List ℕ → ℕ → ℕ → ℕ
+totalsOf n q negative x w l t i = signedSum q negative (at l i) (stringShare q n t x w i)
 
-  pub first-lt : at work (t * n + i) < q
-  first-lt = rw (N.zero-add (t * n + i)) at (d .below (t * n + i) (omega (arith, column-inside)))
+module _ (n q : ℕ) (pos : 0 < q) (negative : Bool) (x w : ℕ → ℕ) (l : List ℕ) where
+  abbrev totals : ℕ → ℕ → ℕ
+  totals = totalsOf n q negative x w l
 
-  pub second-lt : at work (k * n + (t * n + i)) < q
-  second-lt = rw (N.zero-add (k * n + (t * n + i))) at (d .below (k * n + (t * n + i)) (omega (arith, column-inside)))
+  pub totals-none : n ≤ length l → Below q n (at l) → l ≡ overwrite l 0 (table n (totals 0))
+  unfolding stringShare
+  totals-none h b = front-values l n (totals 0) l h refl (λ i k. sym (signed-none q pos negative (at l i) _ (b i k))) (λ i k. refl)
 
-module _ (k n : ℕ) (f g : ℕ → ℕ → ℕ) where
-  both-rows : List ℕ
-  both-rows = rows k n f ++ rows k n g
+  module _ (t : ℕ) (m : List ℕ) (e : m ≡ overwrite l 0 (table n (totals t))) where
+    totals-at : Same n (at m) (totals t)
+    totals-at i h = ap (λ (k : List ℕ). at k i) e ∙ front-at l n (totals t) i h
 
-  length-both : length both-rows ≡ workLength n k
-  unfolding both-rows
-  length-both = length-append (rows k n f) (rows k n g) ∙ omega (arith, length-rows k n f, length-rows k n g)
+    pub totals-below : Below q n (at m)
+    totals-below i h = rw (totals-at i h) (signed-lt q pos negative _ _)
 
-  both-below : (q : ℕ) → ((t : ℕ) → Below q n (f t)) → ((t : ℕ) → Below q n (g t)) → EachBelow q both-rows
-  unfolding both-rows
-  both-below q a b = each-below-append q (rows k n f) (rows k n g) (rows-below q k n f (λ t l. a t)) (rows-below q k n g (λ t l. b t))
+    pub totals-length : n ≤ length l → length m ≡ length l
+    totals-length h = ap length e ∙ front-length l n (totals t) h
 
-  -- first the rows of the one, then those of the other
-  module _ (before first work : List ℕ) (e : first ≡ overwrite before 0 (rows k n f)) (d : work ≡ overwrite first (k * n) (rows k n g)) where
-    filled : work ≡ overwrite before 0 both-rows
-    unfolding both-rows
-    filled =
-        let m : k * n ≡ 0 + length (rows k n f) = omega (arith, length-rows k n f) in
-        d ∙ rw (e, m) (overwrite-append before 0 (rows k n f) (rows k n g))
+    pub totals-next : (u r : List ℕ) → Same n (at r) (row q n x w t) → u ≡ overwrite m 0 (table n (λ i. signedSum q negative (at m i) (at r i))) → u ≡ overwrite l 0 (table n (totals (t + 1)))
+    unfolding stringShare
+    totals-next u r s d =
+        again n (totals t) (λ i. signedSum q negative (at m i) (at r i)) l m u e d
+        ∙ ap (overwrite l 0) (table-same n _ _ (λ i h. ap₂ (signedSum q negative) (totals-at i h) (s i h) ∙ signed-next q pos negative (at l i) t (λ t. row q n x w t i)))
 
-    filled-at : (p : ℕ) → p < workLength n k → at work p ≡ at both-rows p
-    filled-at p h = ap (λ (l : List ℕ). at l p) filled ∙ front-below before both-rows p (omega (arith, length-both))
+-- the totals of both strings, whose words begin at `start` and at `half`, from zeros on: the shares
+pub totals-shares : (n k q start half : ℕ) (x y words work first second : List ℕ) → 0 < q → Same n (at work) (λ i. 0)
+    → first ≡ overwrite work 0 (table n (λ i. signedSum q false (at work i) (stringShare q n k (at x) (after start (at words)) i)))
+    → half ≡ start + k * bitWords n → second ≡ overwrite first 0 (table n (λ i. signedSum q true (at first i) (stringShare q n k (at y) (after half (at words)) i)))
+    → table n (at second) ≡ sampleShares n k q x y (drop start words)
+unfolding sampleShares
+totals-shares n k q start half x y words work first second pos z e h d =
+    table-same n _ (sampleShare q n k (at x) (at y) w) share ∙ ap (λ (v : ℕ → ℕ). table n (sampleShare q n k (at x) (at y) v)) (sym (drop-after start words))
+  where
+    w : ℕ → ℕ
+    w = after start (at words)
 
-    filled-length : workLength n k ≤ length before → length work ≡ length before
-    filled-length h = ap length filled ∙ length-overwrite before 0 both-rows (omega (arith, length-both))
+    share : Same n (at second) (sampleShare q n k (at x) (at y) (after start (at words)))
+    share i l =
+        ap (λ (m : List ℕ). at m i) d ∙ front-at first n _ i l
+        ∙ ap₂ (signedSum q true) (ap (λ (m : List ℕ). at m i) e ∙ front-at work n _ i l ∙ ap (λ (a : ℕ). signedSum q false a (stringShare q n k (at x) (after start (at words)) i)) (z i l))
+        (ap (λ (v : ℕ → ℕ). stringShare q n k (at y) v i) (after-at start (k * bitWords n) half (at words) h))
+        ∙ signed-share q pos n k (at x) (at y) (after start (at words)) i
 
-    pub filled-drawn : (q : ℕ) → workLength n k ≤ length before → ((t : ℕ) → Below q n (f t)) → ((t : ℕ) → Below q n (g t)) → Drawn q 0 (workLength n k) work
-    filled-drawn q h a b =
-        record {
-          room = omega (arith, filled-length h);
-          below = λ p l. let z : 0 + p ≡ p = omega arith in rw (z, filled-at p l) (both-below q a b p (omega (arith, length-both)));
-        }
-
-    module _ (t i : ℕ) (h : t < k) (l : i < n) where
-      inside : t * n + i < k * n
-      inside = digits-lt h l
-
-      pub filled-first : at work (t * n + i) ≡ f t i
-      unfolding both-rows
-      filled-first =
-          filled-at (t * n + i) (omega (arith, inside)) ∙ List·getD-append (rows k n f) (rows k n g) 0 (t * n + i) (omega (arith, inside, length-rows k n f)) ∙ rows-at k n f t i h l
-
-      pub filled-second : at work (k * n + (t * n + i)) ≡ g t i
-      unfolding both-rows
-      filled-second =
-          filled-at (k * n + (t * n + i)) (omega (arith, inside)) ∙ rw (← length-rows k n f) (getD-append-add (rows k n f) (rows k n g) (t * n + i) 0) ∙ rows-at k n g t i h l
-
-    -- what lies behind them is kept
-    pub filled-kept : drop (workLength n k) work ≡ drop (workLength n k) before
-    filled-kept = ap (drop (workLength n k)) filled ∙ drop-front before both-rows (workLength n k) length-both
-
--- the columns of both strings' rows, whose words begin at `start` and at `half`, sum to the shares
-pub columns-shares : (n k q start half : ℕ) (x y words before first work : List ℕ) (e : first ≡ overwrite before 0 (rows k n (row q n (at x) (after start (at words)))))
-    (d : work ≡ overwrite first (k * n) (rows k n (row q n (at y) (after half (at words))))) → half ≡ start + k * bitWords n
-    → table n (columnShare q n k (at work)) ≡ sampleShares n k q x y (drop start words)
-unfolding sampleShares sampleShare stringShare
-columns-shares n k q start half x y words before first work e d h =
-    let w = after start (at words) in
-    let f = d ∙ ap (λ (v : ℕ → ℕ). overwrite first (k * n) (rows k n (row q n (at y) v))) (after-at start (k * bitWords n) half (at words) h) in
-    table-same n _ (sampleShare q n k (at x) (at y) w) (λ i l. sub-cong refl (sum-cong q k _ _ (λ t h. filled-first k n _ _ before first work e f t i h l)) (sum-cong q k _ _ (λ t h. filled-second k n _ _ before first work e f t i h l)))
-    ∙ ap (λ (w : ℕ → ℕ). table n (sampleShare q n k (at x) (at y) w)) (sym (drop-after start words))
+-- zeros over them: the list as it was
+pub totals-cleared : (n : ℕ) (f g : ℕ → ℕ) (work first second u : List ℕ) → n ≤ length work → Same n (at work) (λ i. 0)
+    → first ≡ overwrite work 0 (table n f) → second ≡ overwrite first 0 (table n g) → u ≡ overwrite second 0 (table n (λ i. 0)) → u ≡ work
+totals-cleared n f g work first second u h z e d c =
+    again n g (λ i. 0) work second u (again n f g work first second e d) c ∙ sym (front-values work n (λ i. 0) work h refl z (λ i k. refl))

@@ -12,7 +12,7 @@ use Rattle.checks.specs.Laws.{Hold, hold-front, hold-rest, hold-both, within-tr
 use Rattle.conversion.specs.Conversion.{bitWords}
 use Rattle.conversion.specs.Laws.{bitWords-some}
 use Rattle.conversion.specs.Arrays.{Drawn, words-drawn, drawn-words}
-use Rattle.sampler.specs.Sampler.{sampleWords, workLength, pairChecks, sampleChecks}
+use Rattle.sampler.specs.Sampler.{sampleWords, pairChecks, sampleChecks}
 use Rattle.sampler.specs.Secrecy.{Room}
 
 -- the numbers that the code computes are small
@@ -20,14 +20,13 @@ pub record Small (n k : ℕ) : Type 0 where
   pub bits : 2 * k ≤ 32
   pub per : bitWords n ≤ 56
   pub words : sampleWords n k ≤ 1792
-  pub rows : workLength n k ≤ 256
 
 pub small : (n k : ℕ) → n ≤ 8 → k ≤ 16 → Small n k
 small n k h l =
     let b : 2 * k ≤ 32 = omega arith in
     let m : n - 1 ≤ 7 = omega arith in
     let p : bitWords n ≤ 56 = N.mul-le-mul h m in
-    record { bits = b; per = p; words = N.mul-le-mul b p; rows = N.mul-le-mul b h }
+    record { bits = b; per = p; words = N.mul-le-mul b p }
 
 -- two strings of k bits, each in n shares
 pub record SharedPair (n k q : ℕ) (x y : List ℕ) : Type 0 where
@@ -89,4 +88,4 @@ module _ (n k q : ℕ) (x y : List ℕ) where
       }
 
   pub call-checks : (words : List ℕ) (start : ℕ) (out work : List ℕ) → Hold (sampleChecks n k q x y words start (length out) (length work)) → Hold (pairChecks n k q x y)
-  call-checks words start out work h = fit-first (pairChecks n k q x y) start (sampleWords n k) q words n (workLength n k) out work h
+  call-checks words start out work h = fit-first (pairChecks n k q x y) start (sampleWords n k) q words n n out work h

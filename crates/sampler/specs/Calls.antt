@@ -16,7 +16,7 @@ use Rattle.checks.specs.Checks.{Outcome, accepted}
 use Rattle.checks.specs.Laws.{Hold}
 use Rattle.masking.specs.Sharing.{xorAll}
 use Rattle.binomial.specs.Signed.{weight, differenceOfWeights}
-use Rattle.sampler.specs.Sampler.{Buffers, both, sampleShare, sampleShares, sampleWords, workLength, pairChecks, sampleChecks, sharesWritten, sampled}
+use Rattle.sampler.specs.Sampler.{Buffers, both, sampleShare, sampleShares, sampleWords, pairChecks, sampleChecks, sharesWritten, sampled}
 use Rattle.sampler.specs.Secrecy.{SharesOf, Samples}
 use Rattle.sampler.specs.Laws.{share-lt, share-local, share-sum}
 use Rattle.sampler.specs.Accepted.{SharedPair, shared-pair, pair-large, words-some, call-checks}
@@ -69,32 +69,32 @@ module _ (n k q : ℕ) (x y words : List ℕ) (start : ℕ) (out work : List ℕ
   abbrev taken : List ℕ
   taken = take (sampleWords n k) (drop start words)
 
-  pub call-written : sampled n k q x y words start out work ≡ sharesWritten (sampleChecks n k q x y words start (length out) (length work)) (start + sampleWords n k) (sampleShares n k q x y (drop start words)) (workLength n k) out work
+  pub call-written : sampled n k q x y words start out work ≡ sharesWritten (sampleChecks n k q x y words start (length out) (length work)) (start + sampleWords n k) (sampleShares n k q x y (drop start words)) n out work
   unfolding sampled
   call-written = refl
 
   -- output positions past n keep their content
   pub out-kept : drop n (sampled n k q x y words start out work .buffers .out) ≡ drop n out
   unfolding sampled
-  out-kept = written-out-kept _ (start + sampleWords n k) (sampleShares n k q x y (drop start words)) (workLength n k) out work n (length-shares n k q x y (drop start words))
+  out-kept = written-out-kept _ (start + sampleWords n k) (sampleShares n k q x y (drop start words)) n out work n (length-shares n k q x y (drop start words))
 
-  -- and work positions past 2kn theirs
-  pub work-kept : drop (workLength n k) (sampled n k q x y words start out work .buffers .work) ≡ drop (workLength n k) work
+  -- and so do work positions past n
+  pub work-kept : drop n (sampled n k q x y words start out work .buffers .work) ≡ drop n work
   unfolding sampled
-  work-kept = written-work-kept _ (start + sampleWords n k) (sampleShares n k q x y (drop start words)) (workLength n k) out work
+  work-kept = written-work-kept _ (start + sampleWords n k) (sampleShares n k q x y (drop start words)) n out work
 
   -- words before `start` and behind the last one do not matter
   pub call-words : (words′ : List ℕ) → taken ≡ take (sampleWords n k) (drop start words′) → sampled n k q x y words start out work ≡ sampled n k q x y words′ start out work
   unfolding sampled
   call-words words′ e =
-      written-words (pairChecks n k q x y) start (sampleWords n k) q n (workLength n k) words words′ (sampleShares n k q x y (drop start words)) (sampleShares n k q x y (drop start words′)) out work e
+      written-words (pairChecks n k q x y) start (sampleWords n k) q n n words words′ (sampleShares n k q x y (drop start words)) (sampleShares n k q x y (drop start words′)) out work e
       (λ h. let P = shared-pair n k q x y h in (words-some P, shares-words P (drop start words) (drop start words′) e)) (start + sampleWords n k)
 
   module _ (out′ work′ : List ℕ) where
     -- the answer depends on the lengths of output and work area, not on what they held
     pub answer-before : length out ≡ length out′ → length work ≡ length work′ → sampled n k q x y words start out work .answer ≡ sampled n k q x y words start out′ work′ .answer
     unfolding sampled
-    answer-before = written-before (sampleChecks n k q x y words start) (start + sampleWords n k) (sampleShares n k q x y (drop start words)) (workLength n k) out work out′ work′
+    answer-before = written-before (sampleChecks n k q x y words start) (start + sampleWords n k) (sampleShares n k q x y (drop start words)) n out work out′ work′
 
   -- ---- one that passes every check
 
@@ -103,19 +103,19 @@ module _ (n k q : ℕ) (x y words : List ℕ) (start : ℕ) (out work : List ℕ
     pair = shared-pair n k q x y (call-checks n k q x y words start out work h)
 
     -- is accepted with the position W behind its start; its shares stand in front of the output, and zeros in front of the work area
-    pub call-accepted : sampled n k q x y words start out work ≡ record { answer = accepted (start + sampleWords n k); buffers = both (overwrite out 0 (sampleShares n k q x y (drop start words))) (overwrite work 0 (replicate (workLength n k) 0)) }
+    pub call-accepted : sampled n k q x y words start out work ≡ record { answer = accepted (start + sampleWords n k); buffers = both (overwrite out 0 (sampleShares n k q x y (drop start words))) (overwrite work 0 (replicate n 0)) }
     unfolding sampled
-    call-accepted = written-accepted _ (start + sampleWords n k) (sampleShares n k q x y (drop start words)) (workLength n k) out work h
+    call-accepted = written-accepted _ (start + sampleWords n k) (sampleShares n k q x y (drop start words)) n out work h
 
     pub call-shares : take n (sampled n k q x y words start out work .buffers .out) ≡ sampleShares n k q x y taken
     unfolding sampled
     call-shares =
-        written-shares _ (start + sampleWords n k) (sampleShares n k q x y (drop start words)) (workLength n k) out work h n (length-shares n k q x y (drop start words))
+        written-shares _ (start + sampleWords n k) (sampleShares n k q x y (drop start words)) n out work h n (length-shares n k q x y (drop start words))
         ∙ shares-words pair (drop start words) taken (sym (take-take (sampleWords n k) (sampleWords n k) (drop start words) (le-refl _)))
 
-    pub call-zeroed : take (workLength n k) (sampled n k q x y words start out work .buffers .work) ≡ replicate (workLength n k) 0
+    pub call-zeroed : take n (sampled n k q x y words start out work .buffers .work) ≡ replicate n 0
     unfolding sampled
-    call-zeroed = written-zeros _ (start + sampleWords n k) (sampleShares n k q x y (drop start words)) (workLength n k) out work h
+    call-zeroed = written-zeros _ (start + sampleWords n k) (sampleShares n k q x y (drop start words)) n out work h
 
     pub call-samples : Samples n k q x y taken start (sampled n k q x y words start out work)
     call-samples = record { end = ap (λ (o : Outcome ℕ Buffers). o .answer) call-accepted; shares = shares-of pair taken call-shares }

@@ -1,6 +1,6 @@
 pub mod Sampler
 pub mod Secrecy
-pub mod Columns
+pub mod Totals
 pub mod Laws
 pub mod Accepted
 pub mod Written

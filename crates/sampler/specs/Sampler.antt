@@ -33,16 +33,12 @@ sampleShares n k q x y words = table n (sampleShare q n k (at x) (at y) (at word
 abbrev pub sampleWords : ℕ → ℕ → ℕ
 sampleWords n k = 2 * k * bitWords n
 
--- a row of n words for each bit
-abbrev pub workLength : ℕ → ℕ → ℕ
-workLength n k = 2 * k * n
-
 -- The checks of the two shared strings, 1 to 7: what passes them is the page's 'accepted pair'.
 abbrev pub pairChecks : ℕ → ℕ → ℕ → List ℕ → List ℕ → List Check
 pairChecks n k q x y = parameterChecks n k q ++ shareChecks n k x y
 
 abbrev pub sampleChecks : ℕ → ℕ → ℕ → List ℕ → List ℕ → List ℕ → ℕ → ℕ → ℕ → List Check
-sampleChecks n k q x y words start room area = pairChecks n k q x y ++ bufferChecks start (sampleWords n k) q words n room (workLength n k) area
+sampleChecks n k q x y words start room area = pairChecks n k q x y ++ bufferChecks start (sampleWords n k) q words n room n area
 
 -- output and work area
 pub record Buffers : Type 0 where
@@ -60,4 +56,4 @@ sharesWritten checks end shares zeros out work = settled (verdict checks end) (b
 -- The call takes the words from `start` on (document 02, A.2).
 unfoldable pub sampled : ℕ → ℕ → ℕ → List ℕ → List ℕ → List ℕ → ℕ → List ℕ → List ℕ → Outcome ℕ Buffers
 sampled n k q x y words start out work =
-    sharesWritten (sampleChecks n k q x y words start (length out) (length work)) (start + sampleWords n k) (sampleShares n k q x y (drop start words)) (workLength n k) out work
+    sharesWritten (sampleChecks n k q x y words start (length out) (length work)) (start + sampleWords n k) (sampleShares n k q x y (drop start words)) n out work

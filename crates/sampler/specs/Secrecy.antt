@@ -9,7 +9,7 @@ use Rattle.checks.specs.Checks.{Outcome, accepted, checked}
 use Rattle.masking.specs.Sharing.{xorAll}
 use Rattle.binomial.specs.Signed.{differenceOfWeights}
 use Rattle.secrecy.specs.Secrecy.{Full, between, Indistinguishable, AgreeBut}
-use Rattle.sampler.specs.Sampler.{Buffers, sampleWords, sampleShares, workLength, pairChecks, sampled}
+use Rattle.sampler.specs.Sampler.{Buffers, sampleWords, sampleShares, pairChecks, sampled}
 
 -- The n shares are those of the written steps; their residue is the weight of x less the weight of y, modulo q.
 pub record SharesOf (n k q : ℕ) (x y words shares : List ℕ) : Type 0 where
@@ -38,5 +38,5 @@ Room shares zeros out work = (shares ≤ length out) × (zeros ≤ length work)
 unfoldable pub Secrecy : ℕ → ℕ → ℕ → Type 0
 Secrecy n k q =
     (ℓ : ℕ) → ℓ < n → (x y x′ y′ : List ℕ) → checked (pairChecks n k q x y) ≡ accepted tt → checked (pairChecks n k q x′ y′) ≡ accepted tt
-    → Indistinguishable (Full q (sampleWords n k)) (λ words words′. (before behind out work out′ work′ : List ℕ) → Room n (workLength n k) out work → Room n (workLength n k) out′ work′
+    → Indistinguishable (Full q (sampleWords n k)) (λ words words′. (before behind out work out′ work′ : List ℕ) → Room n n out work → Room n n out′ work′
     → AlikeBut ℓ n k q (length before) x y words (sampled n k q x y (between before words behind) (length before) out work) x′ y′ words′ (sampled n k q x′ y′ (between before words′ behind) (length before) out′ work′))

@@ -13,7 +13,7 @@ use Rattle.secrecy.specs.Translation.{indistinguishable}
 use Rattle.conversion.specs.Conversion.{bitWords}
 use Rattle.conversion.specs.Arrays.{between-drawn}
 use Rattle.conversion.specs.Translation.{refreshWords}
-use Rattle.sampler.specs.Sampler.{sampleShare, sampleShares, sampleWords, workLength, pairChecks, sampled}
+use Rattle.sampler.specs.Sampler.{sampleShare, sampleShares, sampleWords, pairChecks, sampled}
 use Rattle.sampler.specs.Secrecy.{Samples, Room, Secrecy}
 use Rattle.sampler.specs.Accepted.{pair-large, shared-pair, fit-holds}
 use Rattle.sampler.specs.Calls.{shares-at, call-samples}
@@ -40,11 +40,11 @@ shares-secrecy n (suc m) q ℓ large one l x y x′ y′ =
 -- ---- the whole calls
 
 -- a call on a full list between others
-module _ (n k q : ℕ) (x y : List ℕ) (h : Hold (pairChecks n k q x y)) (words : List ℕ) (f : Full q (sampleWords n k) words) (before behind out work : List ℕ) (r : Room n (workLength n k) out work) where
+module _ (n k q : ℕ) (x y : List ℕ) (h : Hold (pairChecks n k q x y)) (words : List ℕ) (f : Full q (sampleWords n k) words) (before behind out work : List ℕ) (r : Room n n out work) where
   between-samples : Samples n k q x y words (length before) (sampled n k q x y (between before words behind) (length before) out work)
   between-samples =
       rw (between-taken f before behind) at (call-samples n k q x y (between before words behind) (length before) out work
-      (fit-holds (pairChecks n k q x y) (length before) (sampleWords n k) q (between before words behind) n (workLength n k) out work h (between-drawn f before behind) r))
+      (fit-holds (pairChecks n k q x y) (length before) (sampleWords n k) q (between before words behind) n n out work h (between-drawn f before behind) r))
 
 pub secrecy : (n k q : ℕ) → Secrecy n k q
 unfolding Secrecy

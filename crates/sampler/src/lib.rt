@@ -2,88 +2,93 @@
 // No branch, index, comparison, division or remainder depends on a share, a bit or a random word behind the checks.
 use checks::Answer;
 use checks::Checked;
-use residue::Wide;
 use residue::Word;
 ghost use mathlib.Core.Path.{_≡_};
-ghost use Prim.Native.Nat.{_+_, _*_, _≤_, _<_};
+ghost use Prim.Native.Nat.{_+_, _*_, _≤_};
 ghost use lib.ListN.{length, drop};
 ghost use Rattle.buffers.specs.Overwrite.{overwrite};
-ghost use Rattle.buffers.specs.Positions.{at, table, rows, after};
+ghost use Rattle.buffers.specs.Positions.{at, table, after, Same, Below};
 ghost use Rattle.checks.specs.Checks.{checked};
 ghost use Rattle.checks.specs.Answers.{checkedReading, outcome};
 ghost use Rattle.conversion.specs.Conversion.{bitWords};
 ghost use Rattle.conversion.specs.Arrays.{Drawn, Modulus};
-ghost use Rattle.sampler.specs.Sampler.{row, sampleWords, sampleShares, workLength, pairChecks, sampleChecks, both, sampled};
-ghost use Rattle.sampler.specs.Columns.{columnShare};
+ghost use Rattle.sampler.specs.Sampler.{stringShare, sampleWords, sampleShares, pairChecks, sampleChecks, both, sampled};
+ghost use Rattle.sampler.specs.Totals.{signedSum};
 ghost use Rattle.sampler.specs.Secrecy.{Secrecy};
 
-// The rows of a string's k bits, one of n shares for each bit, at `to` in the work area and behind. Each bit takes the next n(n - 1) words
-// from `start` on. The string's shares stand in front of the array. Answers the position after the last word.
-fn write_rows(
-    shares: &[u16; 8],
+// A bit's n shares added to the totals or, for a string that counts as negative, taken off.
+fn add_row(row: &[Word; 8], n: usize, q: Word, negative: bool, work: &mut [Word])
+    requires { ⌜ (n ≤ 8) × Modulus q × Below q n (at (now row)) × (n ≤ length (now work)) × Below q n (at (now work)) ⌝ }
+    ensures { λ _. ⌜ now (work .exit) ≡ overwrite (now (work .entry)) 0 (table n (λ i. signedSum q negative (at (now (work .entry)) i) (at (now (row .entry)) i))) ⌝ }
+{
+    let modulus = residue::widen(q);
+    for i in 0..n {
+        let total = residue::widen(work[i]);
+        let share = residue::widen(row[i]);
+        let sum = if negative {
+            residue::sub(total, share, modulus)
+        } else {
+            residue::add(total, share, modulus)
+        };
+        work[i] = residue::narrow(sum, q);
+    }
+}
+
+// The rows of a string's k bits, added to the totals in front of the work area or taken off. Each bit takes the next n(n - 1) words from `start`
+// on. Answers the position after the last word.
+// `&shares[..]`, `&words[..]`: docs/DECISIONS.md, 'A slice is handed on by its parts'.
+fn add_string(
+    shares: &[u16],
     n: usize,
     k: usize,
     q: Word,
     words: &[Word],
     start: usize,
+    negative: bool,
     work: &mut [Word],
-    to: usize,
 ) -> usize
-    requires { ⌜ (2 ≤ n) × (n ≤ 8) × (k ≤ 16) × Modulus q × Drawn q start (k * bitWords n) (now words) × (to + k * n ≤ length (now work)) ⌝ }
-    ensures { λ r. ⌜ (now (work .exit) ≡ overwrite (now (work .entry)) to (rows k n (row q n (at (now (shares .entry))) (after start (at (now (words .entry))))))) × (r ≡ start + k * bitWords n) ⌝ }
+    requires { ⌜ (2 ≤ n) × (n ≤ 8) × (k ≤ 16) × Modulus q × (n ≤ length (now shares)) × Drawn q start (k * bitWords n) (now words) × (n ≤ length (now work)) × Below q n (at (now work)) ⌝ }
+    ensures { λ r. ⌜ (now (work .exit) ≡ overwrite (now (work .entry)) 0 (table n (λ i. signedSum q negative (at (now (work .entry)) i) (stringShare q n k (at (now (shares .entry))) (after start (at (now (words .entry)))) i)))) × (r ≡ start + k * bitWords n) ⌝ }
 {
     let mut p = start;
+    let mut row: [Word; 8] = [0; 8];
     for bit in 0..k {
-        let bits = conversion::bits_at(shares, bit);
-        p = conversion::convert_at(&bits, n, q, words, p, work, to + bit * n);
+        p = conversion::convert_at(&shares[..], bit, n, q, &words[..], p, &mut row);
+        add_row(&row, n, q, negative, work);
     }
     p
 }
 
-// Output share i: the sum of column i over the k rows of x, less that over the k rows of y behind them.
-fn sum_column(work: &[Word], n: usize, k: usize, q: Word, i: usize) -> Word
-    requires { ⌜ (i < n) × Modulus q × Drawn q 0 (workLength n k) (now work) ⌝ }
-    ensures { λ r. ⌜ r ≡ columnShare q n k (at (now (work .entry))) i ⌝ }
-{
-    let modulus = residue::widen(q);
-    let mut total: Wide = 0;
-    for t in 0..k {
-        let x = residue::widen(work[t * n + i]);
-        let y = residue::widen(work[k * n + (t * n + i)]);
-        total = residue::sub(residue::add(total, x, modulus), y, modulus);
-    }
-    residue::narrow(total, q)
-}
-
-fn write_shares(work: &[Word], n: usize, k: usize, q: Word, out: &mut [Word])
-    requires { ⌜ Modulus q × Drawn q 0 (workLength n k) (now work) × (n ≤ length (now out)) ⌝ }
-    ensures { λ _. ⌜ now (out .exit) ≡ overwrite (now (out .entry)) 0 (table n (columnShare q n k (at (now (work .entry))))) ⌝ }
+// The n totals go to the output, and zeros stand in their place.
+fn move_totals(work: &mut [Word], n: usize, out: &mut [Word])
+    requires { ⌜ (n ≤ length (now work)) × (n ≤ length (now out)) ⌝ }
+    ensures { λ _. ⌜ (now (work .exit) ≡ overwrite (now (work .entry)) 0 (table n (λ i. 0))) × (now (out .exit) ≡ overwrite (now (out .entry)) 0 (table n (at (now (work .entry))))) ⌝ }
 {
     for i in 0..n {
-        out[i] = sum_column(work, n, k, q, i);
+        out[i] = work[i];
+        work[i] = 0;
     }
 }
 
-// The sample of the strings whose shares stand in front of x and y, with the words from `start` on. The rows are left in the work area. Answers
-// the position after the last word.
-// `&words[..]`: docs/DECISIONS.md, 'A slice is handed on by its parts'.
+// The sample of the strings whose n shares stand in front of x and y, with the words from `start` on. The totals are made in front of the work
+// area, which has n zeros there before and after. Answers the position after the last word.
 pub fn write_sample(
     n: usize,
     k: usize,
     q: Word,
-    x: &[u16; 8],
-    y: &[u16; 8],
+    x: &[u16],
+    y: &[u16],
     words: &[Word],
     start: usize,
     out: &mut [Word],
     work: &mut [Word],
 ) -> usize
-    requires { ⌜ (2 ≤ n) × (n ≤ 8) × (k ≤ 16) × Modulus q × Drawn q start (sampleWords n k) (now words) × (n ≤ length (now out)) × (workLength n k ≤ length (now work)) ⌝ }
-    ensures { λ r. ⌜ (now (out .exit) ≡ overwrite (now (out .entry)) 0 (sampleShares n k q (now (x .entry)) (now (y .entry)) (drop start (now (words .entry))))) × (drop (workLength n k) (now (work .exit)) ≡ drop (workLength n k) (now (work .entry))) × (r ≡ start + sampleWords n k) ⌝ }
+    requires { ⌜ (2 ≤ n) × (n ≤ 8) × (k ≤ 16) × Modulus q × (n ≤ length (now x)) × (n ≤ length (now y)) × Drawn q start (sampleWords n k) (now words) × (n ≤ length (now out)) × (n ≤ length (now work)) × Same n (at (now work)) (λ i. 0) ⌝ }
+    ensures { λ r. ⌜ (now (out .exit) ≡ overwrite (now (out .entry)) 0 (sampleShares n k q (now (x .entry)) (now (y .entry)) (drop start (now (words .entry))))) × (now (work .exit) ≡ now (work .entry)) × (r ≡ start + sampleWords n k) ⌝ }
 {
-    let half = write_rows(x, n, k, q, &words[..], start, work, 0);
-    let end = write_rows(y, n, k, q, &words[..], half, work, k * n);
-    write_shares(work, n, k, q, out);
+    let half = add_string(x, n, k, q, &words[..], start, false, work);
+    let end = add_string(y, n, k, q, &words[..], half, true, work);
+    move_totals(work, n, out);
     end
 }
 
@@ -114,12 +119,12 @@ fn check_sample(
     }
     let bits = (2 * k) as u32;
     let per = (n * (n - 1)) as u32;
-    checks::check_buffers(words, start, bits, per, q, n, room, 2 * k * n, area)
+    checks::check_buffers(words, start, bits, per, q, n, room, n, area)
 }
 
 // Samples: n shares modulo q of the weight of x less the weight of y, with the 2kn(n - 1) words at `start`. Answers the position after the last
-// of them. The words around them are neither read nor judged. Output positions past n and work positions past 2kn keep their content; the
-// first 2kn work words are zero afterwards.
+// of them. The words around them are neither read nor judged. Output and work positions past n keep their content; the first n work words
+// are zero afterwards.
 // Refuses 1; 2; 3 (q below 2k + 1); 4; 5; 6 and 7 with the share's position; 8 (fewer than start + 2kn(n - 1) words); 9 with the word's
 // position; 10; 11.
 pub fn sample(
@@ -139,11 +144,6 @@ pub fn sample(
     if let Checked::Failed(r) = check_sample(n, k, q, x, y, words, start, out.len(), work.len()) {
         return Answer::Refused(r);
     }
-    let mut a = [0u16; 8];
-    let mut b = [0u16; 8];
-    buffers::copy_eight(&mut a, x);
-    buffers::copy_eight(&mut b, y);
-    let end = write_sample(n, k, q, &a, &b, &words[..], start, out, work);
-    buffers::zero(work, 2 * k * n);
-    Answer::Done(end)
+    buffers::zero(work, n);
+    Answer::Done(write_sample(n, k, q, x, y, &words[..], start, out, work))
 }

@@ -7,7 +7,6 @@ use borrow.Author.Needs.{needs}
 use Rattle.checks.specs.Checks.{checked, bufferChecks}
 use Rattle.checks.specs.Laws.{checks-hold, part-passed, part-failed}
 use Rattle.conversion.specs.Conversion.{bitWords}
-use Rattle.sampler.specs.Sampler.{workLength}
 use Rattle.polynomial.specs.Accepted.{SmallPolynomial, small-polynomial, SharedStrings, first-pair, shared-strings}
 use Rattle.polynomial.proofs.check_polynomial.Statement.{statement}
 use Rattle.polynomial.proofs.check_polynomial.Tie as tie
@@ -55,12 +54,6 @@ cast-per c = omega (arith, sizes c .sample .per)
 mul-check-buffers : tie.Need-mul-check-buffers
 mul-check-buffers c = omega (arith, sizes c .shares)
 
-mul-check-buffers-2 : tie.Need-mul-check-buffers-2
-mul-check-buffers-2 c = omega (arith, sizes c .sample .bits)
-
-mul-check-buffers-3 : tie.Need-mul-check-buffers-3
-mul-check-buffers-3 c = omega (arith, sizes c .sample .rows)
-
 check-buffers-requires : tie.Need-check-buffers-requires
 check-buffers-requires c κs = search needs
 
@@ -68,7 +61,7 @@ returns-2 : tie.Need-returns-2
 returns-2 c =
     let a = start (c .before) .args in
     c .check-buffers .ensures
-    ∙ ap (λ count. checked (bufferChecks 0 count (a .q) (a .words .now) (a .m * a .n) (a .room) (workLength (a .n) (a .k)) (a .area))) (mul-assoc (a .m) (2 * a .k) (bitWords (a .n)))
+    ∙ ap (λ count. checked (bufferChecks 0 count (a .q) (a .words .now) (a .m * a .n) (a .room) (a .n) (a .area))) (mul-assoc (a .m) (2 * a .k) (bitWords (a .n)))
     ∙ sym (part-passed _ _ (c .before .before .before .check-strings .ensures) tt _ (c .before .enum-told .given .1))
 
 pub check-polynomial-spec : {M : Type 1} → statement M
@@ -86,7 +79,5 @@ check-polynomial-spec =
     mul-per
     cast-per
     mul-check-buffers
-    mul-check-buffers-2
-    mul-check-buffers-3
     check-buffers-requires
     returns-2)

@@ -1,14 +1,14 @@
--- The coefficients below t stand in the output, and the work area is kept behind its first 2kn words.
+-- The coefficients below t stand in the output, and the work area is as it was.
 use mathlib.Core.Path.{_≡_, refl, ap, _∙_}
 use Prim.Native.Nat.{_-_, _*_, _≤_}
 use native.Mathlib.Nat.{mul-le-mul-right}
 use native.Mathlib.Omega.{arith}
-use lib.ListN.{length, drop}
+use lib.ListN.{length}
 use borrow.Author.Needs.{needs}
 use Rattle.buffers.specs.Overwrite.{overwrite}
 use Rattle.buffers.specs.Blocks.{block-fits}
 use Rattle.conversion.specs.Arrays.{drawn-part}
-use Rattle.sampler.specs.Sampler.{sampleWords, workLength}
+use Rattle.sampler.specs.Sampler.{sampleWords}
 use Rattle.polynomial.specs.Polynomial.{polynomialShares, polynomialWords}
 use Rattle.polynomial.proofs.Steps.{coefficients-none, coefficients-next, coefficients-length}
 use Rattle.polynomial.proofs.write_coefficients.Statement.{statement}
@@ -16,7 +16,7 @@ use Rattle.polynomial.proofs.write_coefficients.Tie as tie
 
 abbrev Inv-loop : tie.InvT-loop
 Inv-loop n k q m x y words out₀ work₀ p₀ t₀ out work p t =
-    (t ≤ m) × (out ≡ overwrite out₀ 0 (polynomialShares n k q t x y words)) × (length work ≡ length work₀) × (drop (workLength n k) work ≡ drop (workLength n k) work₀) × (p ≡ polynomialWords n k t)
+    (t ≤ m) × (out ≡ overwrite out₀ 0 (polynomialShares n k q t x y words)) × (work ≡ work₀) × (p ≡ polynomialWords n k t)
 
 abbrev μ-loop : tie.MeasureT-loop
 μ-loop n k q m x y words out₀ work₀ p₀ t₀ out work p t = m - t
@@ -28,7 +28,7 @@ out-length c =
     coefficients-length _ _ _ _ _ _ _ _ _ (c .loop .inv .1) (omega (arith, mul-le-mul-right (s .args .n) (c .loop .inv .0), s .pre .7))
 
 loop-holds : tie.Need-loop-holds Inv-loop μ-loop
-loop-holds c = (omega arith, coefficients-none _ _ _ _ _ _ _, refl, refl, omega arith)
+loop-holds c = (omega arith, coefficients-none _ _ _ _ _ _ _, refl, omega arith)
 
 write-coefficient-requires : tie.Need-write-coefficient-requires Inv-loop μ-loop
 write-coefficient-requires c κs =
@@ -42,10 +42,11 @@ write-coefficient-requires c κs =
       s .pre .3,
       omega (arith, s .pre .4),
       omega (arith, s .pre .5),
-      drawn-part (l .p) (l .t * W) W (omega (arith, l .inv .4)) (block-fits W (c .before .before .loop-test .taken)) (s .pre .6),
-      l .inv .4,
+      drawn-part (l .p) (l .t * W) W (omega (arith, l .inv .3)) (block-fits W (c .before .before .loop-test .taken)) (s .pre .6),
+      l .inv .3,
       omega (arith, s .pre .7, out-length (c .before .before .before)),
-      omega (arith, s .pre .8, l .inv .2),
+      rw (l .inv .2) (s .pre .8),
+      rw (l .inv .2) (s .pre .9),
     )
 
 add-t : tie.Need-add-t Inv-loop μ-loop
@@ -58,13 +59,13 @@ loop-again : tie.Need-loop-again Inv-loop μ-loop
 loop-again c =
     let l = c .before .before .before .before .before .before .before .before .loop in
     let e = c .before .before .before .before .write-coefficient .ensures in
-    (omega arith, coefficients-next _ _ _ _ _ _ _ _ _ _ (l .inv .1) (e .0), search needs, e .1 ∙ l .inv .3, omega (arith, e .2, l .inv .4))
+    (omega arith, coefficients-next _ _ _ _ _ _ _ _ _ _ (l .inv .1) (e .0), e .1 ∙ l .inv .2, omega (arith, e .2, l .inv .3))
 
 same-length : tie.Need-same-length Inv-loop μ-loop
 same-length c = out-length (c .before)
 
 same-length-2 : tie.Need-same-length-2 Inv-loop μ-loop
-same-length-2 c = c .before .loop .inv .2
+same-length-2 c = ap length (c .before .loop .inv .2)
 
 returns : tie.Need-returns Inv-loop μ-loop
 returns c =
@@ -72,7 +73,7 @@ returns c =
     let l = c .before .loop in
     let e : l .t ≡ s .args .m = omega arith in
     let a = s .args in
-    (l .inv .1 ∙ ap (λ m. overwrite (a .out .now) 0 (polynomialShares (a .n) (a .k) (a .q) m (a .x .now) (a .y .now) (a .words .now))) e, l .inv .3, rw e at (l .inv .4))
+    (l .inv .1 ∙ ap (λ m. overwrite (a .out .now) 0 (polynomialShares (a .n) (a .k) (a .q) m (a .x .now) (a .y .now) (a .words .now))) e, l .inv .2, rw e at (l .inv .3))
 
 pub write-coefficients-spec : {M : Type 1} → statement M
 write-coefficients-spec =

@@ -41,12 +41,6 @@ mul-per c = omega (arith, sizes c)
 cast-per : tie.Need-cast-per
 cast-per c = omega (arith, sizes c)
 
-mul-check-buffers : tie.Need-mul-check-buffers
-mul-check-buffers c = omega (arith, sizes c)
-
-mul-check-buffers-2 : tie.Need-mul-check-buffers-2
-mul-check-buffers-2 c = omega (arith, sizes c)
-
 check-buffers-requires : tie.Need-check-buffers-requires
 check-buffers-requires c κs = search needs
 
@@ -66,7 +60,5 @@ check-sample-spec =
     sub-per
     mul-per
     cast-per
-    mul-check-buffers
-    mul-check-buffers-2
     check-buffers-requires
     returns-2)

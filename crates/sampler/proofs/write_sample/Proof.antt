@@ -1,46 +1,53 @@
--- The rows of x and behind them those of y, and their columns summed.
-use mathlib.Core.Path.{ap, _∙_}
-use Prim.Native.Nat.{_*_}
+-- The rows of x added, those of y taken off, and the totals moved.
+use mathlib.Core.Path.{_≡_, ap, _∙_}
+use mathlib.Core.Bool.{false}
+use Prim.Native.Nat.{ℕ, _*_, _<_}
 use native.Mathlib.Omega.{arith}
 use borrow.Author.Needs.{needs}
 use Rattle.buffers.specs.Overwrite.{overwrite}
+use Rattle.buffers.specs.Positions.{at, after}
 use Rattle.conversion.specs.Conversion.{bitWords}
 use Rattle.conversion.specs.Arrays.{drawn-part}
-use Rattle.sampler.specs.Laws.{row-lt}
-use Rattle.sampler.proofs.Steps.{filled-drawn, filled-kept, columns-shares}
+use Rattle.sampler.proofs.Steps.{totals-below, totals-shares, totals-cleared}
 use Rattle.sampler.proofs.write_sample.Statement.{statement}
 use Rattle.sampler.proofs.write_sample.Tie as tie
 
--- the place where the rows of both strings stand
-abbrev there : tie.After-slice-known5 → tie.After-write-rows2
-there c = c .before .before .before .before .before .before .before
+-- the places where the call begins, where the rows of x are in the totals, and where those of y are
+abbrev start : tie.After-add-string → tie.Start
+start c = c .before .before .before .before .before .before .before
 
-abbrev first : tie.After-write-rows2 → tie.After-write-rows
+abbrev first : tie.After-add-string2 → tie.After-add-string
 first c = c .before .before .before .before
 
-abbrev start : tie.After-write-rows → tie.Start
-start c = c .before .before .before .before .before
+abbrev second : tie.After-move-totals → tie.After-add-string2
+second c = c .before .before .before .before .before
 
-write-rows-requires : tie.Need-write-rows-requires
-write-rows-requires c κs =
-    let s = c .before .before .before .before in
-    (s .pre .0, s .pre .1, s .pre .2, s .pre .3, drawn-part _ 0 _ (omega arith) (omega arith) (s .pre .4), omega arith)
+positive : (s : tie.Start) → 0 < s .args .q
+positive s = omega (arith, s .pre .3 .large)
 
-mul-write-rows : tie.Need-mul-write-rows
-mul-write-rows c = search needs
+add-string-requires : tie.Need-add-string-requires
+add-string-requires c κs = 
+    let s = c .before .before .before .before .before .before in
+    (s .pre .0, s .pre .1, s .pre .2, s .pre .3, s .pre .4, drawn-part _ 0 _ (omega arith) (omega arith) (s .pre .6), s .pre .8, (λ i h. rw (s .pre .9 i h) (positive s)))
 
-write-rows-requires-2 : tie.Need-write-rows-requires-2
-write-rows-requires-2 c κs =
+add-string-requires-2 : tie.Need-add-string-requires-2
+add-string-requires-2 c κs = 
     let d = c .before .before .before in
     let s = start d in
-    (s .pre .0, s .pre .1, s .pre .2, s .pre .3, drawn-part _ (s .args .k * bitWords (s .args .n)) _ (d .write-rows .ensures .1) (omega arith) (s .pre .4), search needs)
+    let a = s .args in
+    let e = d .add-string .ensures in (
+      s .pre .0,
+      s .pre .1,
+      s .pre .2,
+      s .pre .3,
+      s .pre .5,
+      drawn-part _ (a .k * bitWords (a .n)) _ (e .1) (omega arith) (s .pre .6),
+      search needs,
+      totals-below _ _ (positive s) false (at (a .x .now)) (after (a .start) (at (a .words .now))) _ (a .k) _ (e .0),
+    )
 
-write-shares-requires : tie.Need-write-shares-requires
-write-shares-requires c κs =
-    let d = c .before .before .before .before in
-    let s = start (first d) in
-    let q = s .pre .3 in
-    (q, filled-drawn _ _ _ _ _ _ _ (first d .write-rows .ensures .0) (d .write-rows2 .ensures .0) _ (s .pre .6) (λ t. row-lt _ _ (q .large) _ _ t) (λ t. row-lt _ _ (q .large) _ _ t), search needs)
+move-totals-requires : tie.Need-move-totals-requires
+move-totals-requires c κs = search needs
 
 same-length : tie.Need-same-length
 same-length c = search needs
@@ -49,13 +56,14 @@ same-length-2 : tie.Need-same-length-2
 same-length-2 c = search needs
 
 returns : tie.Need-returns
-returns c =
-    let d = there c in
-    let e = first d .write-rows .ensures in
-    let f = d .write-rows2 .ensures in
-    let a = start (first d) .args in (
-      c .before .before .write-shares .ensures ∙ ap (overwrite _ 0) (columns-shares _ _ _ (a .start) _ (a .x .now) (a .y .now) (a .words .now) _ _ _ (e .0) (f .0) (e .1)),
-      filled-kept _ _ _ _ _ _ _ (e .0) (f .0),
+returns c = 
+    let m = c .before .before .before .before in
+    let e = first (second m) .add-string .ensures in
+    let f = second m .add-string2 .ensures in
+    let s = start (first (second m)) in
+    let a = s .args in (
+      m .move-totals .ensures .1 ∙ ap (overwrite (a .out .now) 0) (totals-shares (a .n) (a .k) (a .q) (a .start) _ (a .x .now) (a .y .now) (a .words .now) (a .work .now) _ _ (positive s) (s .pre .9) (e .0) (e .1) (f .0)),
+      totals-cleared (a .n) _ _ (a .work .now) _ _ _ (s .pre .8) (s .pre .9) (e .0) (f .0) (m .move-totals .ensures .0),
       omega (arith, e .1, f .1),
     )
 
@@ -63,10 +71,9 @@ pub write-sample-spec : {M : Type 1} → statement M
 write-sample-spec =
     tie.close
     (tie.spec
-    write-rows-requires
-    mul-write-rows
-    write-rows-requires-2
-    write-shares-requires
+    add-string-requires
+    add-string-requires-2
+    move-totals-requires
     same-length
     same-length-2
     returns)
