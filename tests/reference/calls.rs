@@ -1,5 +1,5 @@
-//! The calls of document 01, with the starting place and the polynomials of document 02, written from the pages alone and sharing no code with
-//! the library.
+//! The calls of document 01, with the starting place, the polynomials and the smaller work area of document 02, written from the pages alone and
+//! sharing no code with the library.
 
 /// How a call ends: what it answers, or the documents' number and place.
 pub type Verdict<T> = Result<T, (u64, usize)>;
@@ -152,17 +152,17 @@ pub fn words_needed(n: u64, k: u64) -> u64 {
     2 * k * bit_words(n)
 }
 
-/// The output shares of a sample, by the rows of its bits in the work area, each with the next words. Answers the place after the last.
-fn shares_of_sample(k: usize, q: u64, [x, y]: [&[u64]; 2], words: &[u64], start: u64, out: &mut [u64], work: &mut [u64]) -> u64 {
+/// The output shares of a sample, by the numbers of all its bits, each with the next words. Answers the place after the last.
+fn shares_of_sample(k: usize, q: u64, [x, y]: [&[u64]; 2], words: &[u64], start: u64, out: &mut [u64]) -> u64 {
     let (n, mut next) = (out.len(), start);
-    for row in 0..2 * k {
-        let (shares, bit) = if row < k { (x, row) } else { (y, row - k) };
+    let mut rows = vec![vec![0; n]; 2 * k];
+    for (place, row) in rows.iter_mut().enumerate() {
+        let (shares, bit) = if place < k { (x, place) } else { (y, place - k) };
         let bits: Vec<u64> = shares.iter().map(|s| s >> bit & 1).collect();
-        next = convert_bit(n as u64, q, &bits, words, next, &mut work[row * n..]).expect("a shared bit and its words");
+        next = convert_bit(n as u64, q, &bits, words, next, row).expect("a shared bit and its words");
     }
     for (i, share) in out.iter_mut().enumerate() {
-        let x_sum = (0..k).map(|row| work[row * n + i]).sum::<u64>() % q;
-        let y_sum = (k..2 * k).map(|row| work[row * n + i]).sum::<u64>() % q;
+        let [x_sum, y_sum] = [&rows[..k], &rows[k..]].map(|rows| rows.iter().map(|row| row[i]).sum::<u64>() % q);
         *share = minus(x_sum, y_sum, q);
     }
     next
@@ -185,14 +185,14 @@ pub fn coefficients([n, k, q, m]: [u64; 4], strings: [&[u64]; 2], words: &[u64],
     ask_all(y, 7, |s| !has_bits_at_or_above(s, k))?;
     ask_words(words, start, m * words_needed(n, k), q)?;
     ask(out.len() as u64 >= m * n, 10, 0)?;
-    ask(work.len() as u64 >= 2 * k * n, 11, 0)?;
+    ask(work.len() as u64 >= n, 11, 0)?;
     let mut next = start;
     for t in 0..m {
         let shares = (t * n) as usize..((t + 1) * n) as usize;
         let strings = strings.map(|list| &list[shares.clone()]);
-        next = shares_of_sample(k as usize, q, strings, words, next, &mut out[shares], work);
+        next = shares_of_sample(k as usize, q, strings, words, next, &mut out[shares]);
     }
-    work[..(2 * k * n) as usize].fill(0);
+    work[..n as usize].fill(0);
     Ok(next)
 }
 

@@ -8,6 +8,7 @@ use crate::noise;
 use crate::splits;
 use crate::start;
 use crate::text::Text;
+use crate::work;
 use std::ops::Range;
 use Fault::*;
 
@@ -105,10 +106,10 @@ pub fn good(dice: &mut Dice, seed: u64, turn: usize, function: Function, [n, k, 
             (vec![n, q, start], lists, vec![n, needed, n])
         }
         Function::Sample | Function::SamplePolynomial => {
-            let needed = vec![m * n, m * n, m * words_needed(n, k), m * n, 2 * k * n];
+            let needed = vec![m * n, m * n, m * words_needed(n, k), m * n, n];
             let [x, y] = [(); 2].map(|()| (0..m).flat_map(|_| shares(dice, n, k)).collect());
             let start = if function == Function::Sample { start::fitting(dice, needed[2]) } else { 0 };
-            let lists = vec![x, y, words_lent(dice, q, start, needed[2]), words_room(dice, needed[3]), words_room(dice, needed[4])];
+            let lists = vec![x, y, words_lent(dice, q, start, needed[2]), words_room(dice, needed[3]), work::fitting(dice, n, k)];
             (vec![n, k, q, if function == Function::Sample { start } else { m }], lists, needed)
         }
         // Set 1 has k 2, set 2 has k 3.
@@ -233,7 +234,8 @@ impl Draft {
             Short(name) => {
                 let (list, Range { start, end }) = self.list(name);
                 let any = dice.below(end.max(1) as u64) as usize;
-                list.truncate(dice.pick(&[end.saturating_sub(1), start, 0, any]));
+                let most = end.saturating_sub(1);
+                list.truncate(dice.pick(&[most, most, start, 0, any, any]));
             }
             Start => self.start_too_far(dice),
             Wide(name) if k < 16 => self.change(dice, name, |dice, share| too_wide(dice, share, k)),

@@ -106,7 +106,7 @@ fn ending<T>(verdict: Verdict<T>, accepted: impl Fn(T) -> String) -> String {
 fn sample_line(line: &Line) -> String {
     let (n, k, q) = (line.number("n"), line.number("k"), line.number("q"));
     let (x, y) = (line.list("x"), line.list("y"));
-    let (mut out, mut work) = ([0; 8], [0; 256]);
+    let (mut out, mut work) = ([0; 8], [0; 8]);
     let verdict = sample([n, k, q], [&x, &y], &line.list("words"), 0, &mut out, &mut work);
     let answer = ending(verdict, |used| {
         let shares = &out[..n as usize];

@@ -1,7 +1,8 @@
 //! Lists in memory, between guard elements that no call may touch.
 
-/// So many elements that are not lent stand before each list, and as many behind it.
-pub const GUARDS: usize = 64;
+/// So many elements that are not lent stand before each list, and as many behind it. A call that
+/// writes 2kn places where a work area has n is still within them.
+pub const GUARDS: usize = 256;
 
 /// A list between its guard elements, no two neighbours of which are equal and none of which is 0.
 pub fn guarded(list: &[u64]) -> Vec<u64> {

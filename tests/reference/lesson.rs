@@ -162,7 +162,7 @@ impl<'a> Reader<'a> {
         let second_shares = self.words(&second, n)?;
         let (random, count) = self.random_words()?;
         let (x, y) = if x_first { (&first_shares, &second_shares) } else { (&second_shares, &first_shares) };
-        let (mut out, mut work) = (vec![0; n as usize], vec![0; 2 * (k * n) as usize]);
+        let (mut out, mut work) = (vec![0; n as usize], vec![0; n as usize]);
         match sample([n, k, q], [x, y], &self.buffer[..count], 0, &mut out, &mut work) {
             Ok(used) => {
                 let centred = centred_sample(n, k, q, [x, y], &out);

@@ -30,6 +30,7 @@ mod tally;
 mod text;
 mod walk;
 mod way;
+mod work;
 
 use call::{bytes, Call, Function, Outcome};
 use draw::Dice;

@@ -2,7 +2,7 @@
 
 use crate::call::{Answer, Call, Function, FUNCTIONS};
 use crate::kinds::{print_gaps, Kinds};
-use crate::{polynomial, splits, start};
+use crate::{polynomial, splits, start, work};
 use std::collections::{BTreeMap, BTreeSet};
 
 /// A kind of call that is met less often says too little.
@@ -13,7 +13,7 @@ struct Counts {
     by_code: BTreeMap<u64, usize>,
     /// The places of each refusal, for 9 counted from the start.
     places: BTreeMap<u64, BTreeSet<u64>>,
-    /// The n and k of the accepted calls.
+    /// The n and k of the accepted calls, of those with a work area only where it has n places.
     pairs: BTreeSet<(u64, u64)>,
     /// What else the calls met, and how often.
     kinds: Kinds,
@@ -22,9 +22,10 @@ struct Counts {
 /// What else the calls of a function are to meet.
 fn kinds_to_meet(function: Function) -> Vec<String> {
     match function {
-        Function::SamplePolynomial => polynomial::to_meet(),
+        Function::ConvertBit => start::to_meet(function),
+        Function::Sample => [start::to_meet(function), work::to_meet(function)].concat(),
+        Function::SamplePolynomial => [polynomial::to_meet(), work::to_meet(function)].concat(),
         Function::SplitNoise => splits::to_meet(),
-        Function::ConvertBit | Function::Sample => start::to_meet(function),
         _ => vec![],
     }
 }
@@ -32,9 +33,10 @@ fn kinds_to_meet(function: Function) -> Vec<String> {
 /// What one call meets of that.
 fn kinds_met(call: &Call, answer: Answer) -> Vec<String> {
     match call.function {
-        Function::SamplePolynomial => polynomial::met(call, answer),
+        Function::ConvertBit => start::met(call, answer),
+        Function::Sample => [start::met(call, answer), work::met(call, answer)].concat(),
+        Function::SamplePolynomial => [polynomial::met(call, answer), work::met(call, answer)].concat(),
         Function::SplitNoise => splits::met(call, answer),
-        Function::ConvertBit | Function::Sample => start::met(call, answer),
         _ => vec![],
     }
 }
@@ -54,7 +56,7 @@ impl Met {
         if answer.code != 0 {
             let from = if answer.code == 9 { call.number("start").unwrap_or(0) } else { 0 };
             counts.places.entry(answer.code).or_default().insert(answer.place - from);
-        } else if let (Some(n), Some(k)) = (call.number("n"), call.number("k")) {
+        } else if let (Some(n), Some(k), true) = (call.number("n"), call.number("k"), work::is_least(call)) {
             counts.pairs.insert((n, k));
         }
     }
@@ -101,8 +103,8 @@ impl Counts {
         format!("{} {}, accepted {}, refused {}{kinds}", form.name, self.all(), self.times(0), refusals.join(", "))
     }
 
-    /// What the calls should have met and did not: each refusal, at the first and the last place, acceptance with every n and k, and often enough
-    /// each kind that the function has besides.
+    /// What the calls should have met and did not: each refusal, at the first and the last place, acceptance with every n and k, with n places
+    /// of work area where there is one, and often enough each kind that the function has besides.
     fn gaps(&self, function: Function) -> Vec<String> {
         let form = function.form();
         let mut gaps = Vec::new();

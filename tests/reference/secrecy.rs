@@ -19,16 +19,21 @@ fn convert_bit(q: u16, bits: &[u16], words: &[u16], start: usize, out: &mut [u16
     tinplateau::convert_bit(out.len(), q, bits, words, start, out)
 }
 
+/// What stands in the work area before each call, which lends as many of these places as there are shares.
+const WORK: [u16; 3] = [u16::MAX, 1, 2];
+
 /// A sample with k 1: the shares of x, then those of y.
 fn sample(q: u16, bits: &[u16], words: &[u16], start: usize, out: &mut [u16]) -> Result<usize, Refusal> {
-    let (x, y) = bits.split_at(out.len());
-    tinplateau::sample(out.len(), 1, q, x, y, words, start, out, &mut [0; 16])
+    let (n, mut work) = (out.len(), WORK);
+    let (x, y) = bits.split_at(n);
+    tinplateau::sample(n, 1, q, x, y, words, start, out, &mut work[..n])
 }
 
 /// A polynomial of two coefficients with k 1: the shares of x of both, then those of y. It starts at word 0.
 fn polynomial(q: u16, bits: &[u16], words: &[u16], _: usize, out: &mut [u16]) -> Result<usize, Refusal> {
+    let (n, mut work) = (out.len() / 2, WORK);
     let (x, y) = bits.split_at(out.len());
-    tinplateau::sample_polynomial(out.len() / 2, 1, q, 2, x, y, words, out, &mut [0; 16])
+    tinplateau::sample_polynomial(n, 1, q, 2, x, y, words, out, &mut work[..n])
 }
 
 /// Goes on to the next list of numbers below the bound. After the last it answers false.

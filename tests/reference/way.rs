@@ -5,6 +5,7 @@ use crate::calls::{parameter_set, words_needed};
 use crate::draw::{random_words, Dice};
 use crate::kinds::print_gaps;
 use crate::noise::{self, Coefficient, COEFFICIENTS};
+use crate::work;
 use std::collections::BTreeMap;
 
 /// One of so many accepted splits with a set and an n goes all the way.
@@ -32,7 +33,7 @@ pub fn polynomial(dice: &mut Dice, split: &Call, outcome: &Outcome) -> Call {
     let shares = COEFFICIENTS * n as usize;
     let [x, y] = [1, 2].map(|list| outcome.list(list)[..shares].to_vec());
     let words = random_words(dice, q, COEFFICIENTS as u64 * words_needed(n, k));
-    let lists = vec![x, y, words, vec![0; shares], vec![0; (2 * k * n) as usize]];
+    let lists = vec![x, y, words, vec![0; shares], work::fitting(dice, n, k)];
     Call { function: Function::SamplePolynomial, numbers: vec![n, k, q, COEFFICIENTS as u64], lists }
 }
 

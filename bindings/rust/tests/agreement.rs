@@ -35,7 +35,7 @@ fn polynomial_of([n, k, m]: [usize; 3], shares: usize, words: usize, out: usize,
 /// A polynomial of zeros with lists of the lengths that the sizes name.
 fn fitting_polynomial(n: usize, k: usize, m: usize) -> Result<usize, Refusal> {
     let shares = polynomial_shares(n, m);
-    polynomial_of([n, k, m], shares, polynomial_words(n, k, m), shares, sample_work(n, k))
+    polynomial_of([n, k, m], shares, polynomial_words(n, k, m), shares, sample_work(n))
 }
 
 /// Noise of zeros split with lists of these lengths.
@@ -62,7 +62,7 @@ fn text_of(call: TextCall, file: &[u8], room: usize) -> Result<String, Refusal> 
 fn sample_sizes_are_exact() {
     for n in MIN_SHARES..=MAX_SHARES {
         for k in MIN_BITS..=MAX_BITS {
-            let (words, work) = (sample_words(n, k), sample_work(n, k));
+            let (words, work) = (sample_words(n, k), sample_work(n));
             for (q, start) in [2 * k as u16 + 1, Q, u16::MAX].into_iter().zip(STARTS) {
                 let end = start + words;
                 assert_eq!(sample_of(n, k, q, end, start, n, work), Ok(end));
@@ -82,7 +82,7 @@ fn polynomial_sizes_are_exact() {
     for n in MIN_SHARES..=MAX_SHARES {
         for k in MIN_BITS..=MAX_BITS {
             for m in [MIN_COEFFICIENTS, 2, 1 + n * k] {
-                let (size, shares, words, work) = ([n, k, m], polynomial_shares(n, m), polynomial_words(n, k, m), sample_work(n, k));
+                let (size, shares, words, work) = ([n, k, m], polynomial_shares(n, m), polynomial_words(n, k, m), sample_work(n));
                 assert_eq!(fitting_polynomial(n, k, m), Ok(words));
                 assert_eq!(polynomial_of(size, shares - 1, words, shares, work), refused(Reason::XCount, 0));
                 assert_eq!(polynomial_of(size, shares, words - 1, shares, work), refused(Reason::WordCount, 0));
@@ -140,8 +140,8 @@ fn bit_sizes_are_exact() {
 
 #[test]
 fn sizes_of_unfit_numbers_do_not_overflow() {
-    assert_eq!([bit_words(0), sample_words(0, 0), sample_work(0, 0)], [0; 3]);
-    assert_eq!([bit_words(usize::MAX), sample_words(usize::MAX, 1), sample_work(usize::MAX, 1)], [usize::MAX; 3]);
+    assert_eq!([bit_words(0), sample_words(0, 0), sample_work(0)], [0; 3]);
+    assert_eq!([bit_words(usize::MAX), sample_words(usize::MAX, 1), sample_work(usize::MAX)], [usize::MAX; 3]);
     assert_eq!([polynomial_shares(0, 0), polynomial_words(0, 0, 0)], [0; 2]);
     assert_eq!([polynomial_shares(2, usize::MAX), polynomial_words(2, 1, usize::MAX)], [usize::MAX; 2]);
     assert_eq!([noise_bytes(0, 0), noise_bytes(2, 0), noise_bytes(0, 2), noise_shares(0)], [0; 4]);
@@ -154,11 +154,11 @@ fn sizes_of_unfit_numbers_do_not_overflow() {
 #[test]
 fn ranges_are_exact() {
     for n in [MIN_SHARES - 1, MAX_SHARES + 1] {
-        assert_eq!(sample_of(n, 1, Q, sample_words(n, 1), 0, n, sample_work(n, 1)), refused(Reason::ShareCount, 0));
+        assert_eq!(sample_of(n, 1, Q, sample_words(n, 1), 0, n, sample_work(n)), refused(Reason::ShareCount, 0));
         assert_eq!(noise_of(n, 1, noise_bytes(n, 2), noise_shares(n), noise_shares(n)), refused(Reason::ShareCount, 0));
     }
     for k in [MIN_BITS - 1, MAX_BITS + 1] {
-        assert_eq!(sample_of(2, k, Q, sample_words(2, k), 0, 2, sample_work(2, k)), refused(Reason::StringLength, 0));
+        assert_eq!(sample_of(2, k, Q, sample_words(2, k), 0, 2, sample_work(2)), refused(Reason::StringLength, 0));
     }
     for m in [MIN_COEFFICIENTS - 1, MAX_COEFFICIENTS + 1] {
         assert_eq!(fitting_polynomial(2, 1, m), refused(Reason::CoefficientCount, 0));
@@ -184,7 +184,7 @@ fn text_room_is_exact() {
 
 #[test]
 fn every_reason_of_a_call_is_met() {
-    let (mut out, mut work) = ([0; 2], [0; 4]);
+    let (mut out, mut work) = ([0; 2], [0; 2]);
     let mut sampled = |q, x: &[u16], y: &[u16], words: &[u16]| sample(2, 1, q, x, y, words, words.len() - 4, &mut out, &mut work).map(drop);
     let bits = [1, 0];
     let mut met = vec![
@@ -196,11 +196,11 @@ fn every_reason_of_a_call_is_met() {
         (sampled(3, &bits, &bits, &[3, 3, 0, 0, 0, 3]), 9, Reason::WordRange, 5),
     ];
     met.extend([
-        (sample_of(1, 1, 3, 4, 0, 2, 4).map(drop), 1, Reason::ShareCount, 0),
-        (sample_of(2, 0, 3, 4, 0, 2, 4).map(drop), 2, Reason::StringLength, 0),
-        (sample_of(2, 1, 3, 4, 1, 2, 4).map(drop), 8, Reason::WordCount, 0),
-        (sample_of(2, 1, 3, 4, 0, 1, 4).map(drop), 10, Reason::OutputRoom, 0),
-        (sample_of(2, 1, 3, 4, 0, 2, 3).map(drop), 11, Reason::WorkRoom, 0),
+        (sample_of(1, 1, 3, 4, 0, 2, 2).map(drop), 1, Reason::ShareCount, 0),
+        (sample_of(2, 0, 3, 4, 0, 2, 2).map(drop), 2, Reason::StringLength, 0),
+        (sample_of(2, 1, 3, 4, 1, 2, 2).map(drop), 8, Reason::WordCount, 0),
+        (sample_of(2, 1, 3, 4, 0, 1, 2).map(drop), 10, Reason::OutputRoom, 0),
+        (sample_of(2, 1, 3, 4, 0, 2, 1).map(drop), 11, Reason::WorkRoom, 0),
         (weight_difference(1, OpenedString(1), OpenedString(2)).map(drop), 12, Reason::ValueWidth, 1),
         (mask(3, 1, OpenedString(1), &[0; 3], &mut [0; 3]).map(drop), 13, Reason::MaskCount, 0),
         (mask(3, 1, OpenedString(1), &[0, 2], &mut [0; 3]).map(drop), 14, Reason::MaskWidth, 1),
@@ -208,7 +208,7 @@ fn every_reason_of_a_call_is_met() {
         (open_residue(2, 3, &[0, 3]).map(drop), 16, Reason::ArithmeticRange, 1),
         (centre(3, OpenedResidue(3)).map(drop), 17, Reason::ResidueRange, 0),
         (parameter_set(8).map(drop), 22, Reason::SetNumber, 0),
-        (polynomial_of([2, 1, 0], 2, 4, 2, 4).map(drop), 23, Reason::CoefficientCount, 0),
+        (polynomial_of([2, 1, 0], 2, 4, 2, 2).map(drop), 23, Reason::CoefficientCount, 0),
         (noise_of(2, 3, 256, 512, 512).map(drop), 24, Reason::NoiseSet, 0),
         (noise_of(2, 1, 255, 512, 512).map(drop), 25, Reason::NoiseLength, 0),
     ]);
