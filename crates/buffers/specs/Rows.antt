@@ -75,8 +75,5 @@ module _ (l : List ℕ) (start n : ℕ) (f : ℕ → ℕ → ℕ) where
   pub rows-next : (t : ℕ) (m : List ℕ) (s : List ℕ) → m ≡ overwrite l start (rows t n f) → s ≡ table n (f t) → overwrite m (start + t * n) s ≡ overwrite l start (rows (t + 1) n f)
   rows-next t m s e d = rw (e, d, add-one t, rows-last t n f, ← length-rows t n f) (overwrite-append l start (rows t n f) (table n (f t)))
 
-  pub rows-all : (t k : ℕ) (m : List ℕ) → t ≡ k → m ≡ overwrite l start (rows t n f) → m ≡ overwrite l start (rows k n f)
-  rows-all t k m h e = e ∙ ap (λ (j : ℕ). overwrite l start (rows j n f)) h
-
   pub rows-length : (t : ℕ) (m : List ℕ) → m ≡ overwrite l start (rows t n f) → start + t * n ≤ length l → length m ≡ length l
   rows-length t m e h = ap length e ∙ length-overwrite l start (rows t n f) (omega (arith, length-rows t n f))

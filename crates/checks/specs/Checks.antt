@@ -98,10 +98,10 @@ shareChecks count k x y = exactly 4 count x ∷ exactly 5 count y ∷ narrow 6 k
 abbrev pub wordChecks : ℕ → ℕ → ℕ → List ℕ → List Check
 wordChecks start count q words = atLeast 8 (start + count) (length words) ∷ allBelowFrom 9 q start (take count (drop start words)) ∷ []
 
--- 10 and 11: room in the output for so many shares, and in the work area for so many words
+-- 10 and 11: room in the output for so many shares, and in the work area for so many totals
 abbrev pub roomChecks : ℕ → ℕ → ℕ → ℕ → List Check
-roomChecks shares room rows area = atLeast 10 shares room ∷ atLeast 11 rows area ∷ []
+roomChecks shares room totals area = atLeast 10 shares room ∷ atLeast 11 totals area ∷ []
 
 -- 8 to 11
 abbrev pub bufferChecks : ℕ → ℕ → ℕ → List ℕ → ℕ → ℕ → ℕ → ℕ → List Check
-bufferChecks start count q words shares room rows area = wordChecks start count q words ++ roomChecks shares room rows area
+bufferChecks start count q words shares room totals area = wordChecks start count q words ++ roomChecks shares room totals area

@@ -223,7 +223,7 @@ pub fn check_words(words: &[Word], start: usize, bits: u32, per: u32, q: Word) -
 }
 
 // Checks 8 to 11: the words of a call that takes `per` from `start` on for each of its bits, room in the output for `shares` words, and in
-// the work area for `rows`.
+// the work area for `totals`.
 pub fn check_buffers(
     words: &[Word],
     start: usize,
@@ -232,10 +232,10 @@ pub fn check_buffers(
     q: Word,
     shares: usize,
     room: usize,
-    rows: usize,
+    totals: usize,
     area: usize,
 ) -> Checked
-    ensures { λ r. ⌜ checkedReading r ≡ checked (bufferChecks start (bits * per) q (now (words .entry)) shares room rows area) ⌝ }
+    ensures { λ r. ⌜ checkedReading r ≡ checked (bufferChecks start (bits * per) q (now (words .entry)) shares room totals area) ⌝ }
 {
     if let Checked::Failed(r) = check_words(words, start, bits, per, q) {
         return Checked::Failed(r);
@@ -243,7 +243,7 @@ pub fn check_buffers(
     if room < shares {
         return refuse(OUTPUT_ROOM, 0);
     }
-    if area < rows {
+    if area < totals {
         return refuse(WORK_ROOM, 0);
     }
     Checked::Passed

@@ -2,7 +2,6 @@
 use mathlib.Core.Path.{_≡_, refl, sym, ap, _∙_, fun-ext}
 use mathlib.Core.Bool.{cond}
 use mathlib.Core.List.{List, _∷_, _++_}
-use mathlib.Core.Logic.{_≢_}
 use Prim.Native.Nat.{ℕ, zero, suc, _+_, _-_, _*_, _≤_, _<_}
 use native.Mathlib.Nat as N
 use native.Mathlib.Decide.{ℕ-discrete}
@@ -17,7 +16,7 @@ use Rattle.residue.specs.Laws.{reduce-small, reduce-lt, reduce-add, add-lt, neg
 use Rattle.buffers.specs.Overwrite.{overwrite}
 use Rattle.buffers.specs.Laws.{front, front-over}
 use Rattle.buffers.specs.Positions.{at, table, after, Same, Below}
-use Rattle.buffers.specs.PositionLaws.{after-after, length-table, table-same, front-at, front-values, set-agrees}
+use Rattle.buffers.specs.PositionLaws.{after-after, length-table, table-same, front-at}
 use Rattle.buffers.specs.Rows.{values-none, values-next}
 use Rattle.checks.specs.Width.{bit-lowest}
 use Rattle.conversion.specs.Conversion.{bitsAt, pairs, extend, lessTwice, xorBit, xorShare, convert, transfer, refreshShare, refreshFrom, refresh, convertBit, bitShares}

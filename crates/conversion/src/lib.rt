@@ -16,7 +16,7 @@ ghost use Rattle.checks.specs.Checks.{checked};
 ghost use Rattle.checks.specs.Answers.{checkedReading, outcome};
 ghost use Rattle.conversion.specs.Conversion.{pairs, lessTwice, xorShare, bitsAt, convert, refresh, convertBit, bitWords, bitChecks, converted};
 ghost use Rattle.conversion.specs.Secrecy.{BitSecrecy};
-ghost use Rattle.conversion.specs.Arrays.{Drawn, Modulus};
+ghost use Rattle.conversion.specs.Drawn.{Drawn, Modulus};
 
 // B - 2Bb modulo q for B = a - r and a bit b: a - r, or r - a where b is 1.
 fn less_twice(a: Wide, r: Wide, b: Wide, q: Word) -> Word

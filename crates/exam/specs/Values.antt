@@ -68,19 +68,19 @@ minus n = negℤ (pos n)
 unfoldable pub starred : List Value
 starred =
     -- *a: n 2, k 1, q 17, x (1, 0), y (1, 1), words 5 3 10 16: shares 7, 11
-    sample 2 1 17 (1 ∷ 0 ∷ []) (1 ∷ 1 ∷ []) (5 ∷ 3 ∷ 10 ∷ 16 ∷ []) (old 3) (old 5) gives leaving (accepted 4) (7 ∷ 11 ∷ old 1) (zeros 4 ++ old 1)
+    sample 2 1 17 (1 ∷ 0 ∷ []) (1 ∷ 1 ∷ []) (5 ∷ 3 ∷ 10 ∷ 16 ∷ []) (old 3) (old 3) gives leaving (accepted 4) (7 ∷ 11 ∷ old 1) (zeros 2 ++ old 1)
     ∷ openResidue 2 17 (7 ∷ 11 ∷ []) gives residue (accepted 1)
     ∷ centre 17 1 gives integer (accepted (pos 1))
     -- *b: as a, x (0, 0), y (0, 1), words 5 3 10 14: shares 7, 9, centred −1
-    ∷ sample 2 1 17 (0 ∷ 0 ∷ []) (0 ∷ 1 ∷ []) (5 ∷ 3 ∷ 10 ∷ 14 ∷ []) (old 3) (old 5) gives leaving (accepted 4) (7 ∷ 9 ∷ old 1) (zeros 4 ++ old 1)
+    ∷ sample 2 1 17 (0 ∷ 0 ∷ []) (0 ∷ 1 ∷ []) (5 ∷ 3 ∷ 10 ∷ 14 ∷ []) (old 3) (old 3) gives leaving (accepted 4) (7 ∷ 9 ∷ old 1) (zeros 2 ++ old 1)
     ∷ openResidue 2 17 (7 ∷ 9 ∷ []) gives residue (accepted 16)
     ∷ centre 17 16 gives integer (accepted (minus 1))
     -- *c: n 2, k 1, q 3, x (1, 1), y (1, 0), four zero words: shares 2, 0, centred −1
-    ∷ sample 2 1 3 (1 ∷ 1 ∷ []) (1 ∷ 0 ∷ []) (zeros 4) (old 3) (old 5) gives leaving (accepted 4) (2 ∷ 0 ∷ old 1) (zeros 4 ++ old 1)
+    ∷ sample 2 1 3 (1 ∷ 1 ∷ []) (1 ∷ 0 ∷ []) (zeros 4) (old 3) (old 3) gives leaving (accepted 4) (2 ∷ 0 ∷ old 1) (zeros 2 ++ old 1)
     ∷ openResidue 2 3 (2 ∷ 0 ∷ []) gives residue (accepted 2)
     ∷ centre 3 2 gives integer (accepted (minus 1))
     -- *d: n 3, k 1, q 17, x (1, 0, 1), y all 0, words 1 2 3 4 5 6 and six zeros: shares 12, 4, 1
-    ∷ sample 3 1 17 (1 ∷ 0 ∷ 1 ∷ []) (zeros 3) (1 ∷ 2 ∷ 3 ∷ 4 ∷ 5 ∷ 6 ∷ zeros 6) (old 4) (old 7) gives leaving (accepted 12) (12 ∷ 4 ∷ 1 ∷ old 1) (zeros 6 ++ old 1)
+    ∷ sample 3 1 17 (1 ∷ 0 ∷ 1 ∷ []) (zeros 3) (1 ∷ 2 ∷ 3 ∷ 4 ∷ 5 ∷ 6 ∷ zeros 6) (old 4) (old 4) gives leaving (accepted 12) (12 ∷ 4 ∷ 1 ∷ old 1) (zeros 3 ++ old 1)
     ∷ openResidue 3 17 (12 ∷ 4 ∷ 1 ∷ []) gives residue (accepted 0)
     ∷ centre 17 0 gives integer (accepted (pos 0))
     -- *e: masking 10 with n 3, k 4, masks 3, 12: shares 3, 12, 5
@@ -92,10 +92,10 @@ starred =
     ∷ centre 8 3 gives integer (accepted (pos 3))
     ∷ centre 8 4 gives integer (accepted (minus 4))
     -- *h: k 16 with q 32 is refused with 3; q 33 passes
-    ∷ sample 2 16 32 (zeros 2) (zeros 2) (zeros 64) (old 3) (old 65) gives leaving (refused 3 0) (old 3) (old 65)
-    ∷ sample 2 16 33 (zeros 2) (zeros 2) (zeros 64) (old 3) (old 65) gives leaving (accepted 64) (zeros 2 ++ old 1) (zeros 64 ++ old 1)
+    ∷ sample 2 16 32 (zeros 2) (zeros 2) (zeros 64) (old 3) (old 3) gives leaving (refused 3 0) (old 3) (old 3)
+    ∷ sample 2 16 33 (zeros 2) (zeros 2) (zeros 64) (old 3) (old 3) gives leaving (accepted 64) (zeros 2 ++ old 1) (zeros 2 ++ old 1)
     -- *i: as a, third word 17: refused with 9, place 2
-    ∷ sample 2 1 17 (1 ∷ 0 ∷ []) (1 ∷ 1 ∷ []) (5 ∷ 3 ∷ 17 ∷ 16 ∷ []) (old 3) (old 5) gives leaving (refused 9 2) (old 3) (old 5)
+    ∷ sample 2 1 17 (1 ∷ 0 ∷ []) (1 ∷ 1 ∷ []) (5 ∷ 3 ∷ 17 ∷ 16 ∷ []) (old 3) (old 3) gives leaving (refused 9 2) (old 3) (old 3)
     ∷ []
 
 pub starred-hold : map (λ (v : Value). resultOf (v .call)) starred ≡ map (λ (v : Value). v .given) starred

@@ -22,7 +22,7 @@ pub fn sample(
     print::call(letter, b" sample", n, k);
     print::modulus(q);
     print_lists(x, y, words);
-    let mut work: [Word; 64] = [65535; 64];
+    let mut work: [Word; 8] = [65535; 8];
     match sampler::sample(n, k, q, x, y, words, 0, out, &mut work) {
         Answer::Done(count) => print_sample(count, n, q, out),
         Answer::Refused(r) => print::refused(r),

@@ -42,7 +42,7 @@ fn mask(k: usize, string: u16, a: u16, b: u16, out: &mut [u16; 3])
 
 fn sample(k: usize, q: Word, x: &[u16; 3], y: &[u16; 3], words: &[Word; 192]) -> SignedAnswer {
     let mut out: [Word; 3] = [0; 3];
-    let mut work: [Word; 96] = [0; 96];
+    let mut work: [Word; 3] = [0; 3];
     if let Answer::Refused(r) = sampler::sample(3, k, q, x, y, words, 0, &mut out, &mut work) {
         return SignedAnswer::Refused(r);
     }

@@ -9,7 +9,7 @@ use native.Mathlib.Numerals.{add-one}
 use native.Mathlib.Omega.{arith}
 use lib.ListN.{length, getD, take, drop, length-append, length-take, length-drop, List·getD-append}
 use lib.Seq.{getD-take, getD-drop, getD-append-add}
-use Rattle.residue.specs.Residue.{reduce, add, mul, neg, sub, sum, total, EachBelow}
+use Rattle.residue.specs.Residue.{reduce, add, mul, neg, sum, total, EachBelow}
 use Rattle.residue.specs.Laws.{reduce-zero, reduce-lt, reduce-reduce, reduce-plus, reduce-add, add-reduce-left, add-reduce-right, add-comm, add-assoc, add-left-comm, zero-add, add-zero, mul-add, mul-zero, neg-zero, neg-add}
 
 -- ---- a list in two parts
@@ -70,16 +70,6 @@ module _ (q : ℕ) where
 
     pub running-all : (t n s : ℕ) → t ≡ n → s ≡ sum q t f → s ≡ sum q n f
     running-all t n s h e = e ∙ ap (λ (m : ℕ). sum q m f) h
-
-  -- and a difference of two
-  module _ (pos : 0 < q) (f g : ℕ → ℕ) where
-    pub difference-none : 0 ≡ sub q (sum q 0 f) (sum q 0 g)
-    unfolding sum
-    difference-none = sym (rw (neg-zero q pos) (add-zero q 0 ∙ reduce-zero q))
-
-    pub difference-next : (t s v : ℕ) → s ≡ sub q (sum q t f) (sum q t g) → v ≡ sub q (add q s (f t)) (g t) → v ≡ sub q (sum q (t + 1) f) (sum q (t + 1) g)
-    difference-next t s v e d =
-        d ∙ rw (e, add-one t, sum-last t f, sum-last t g, neg-add q pos) (simp (add-assoc, add-left-comm))
 
   pub sum-zero : (n : ℕ) → sum q n (λ i. 0) ≡ 0
   unfolding sum

@@ -5,6 +5,7 @@ pub mod Laws
 pub mod Accepted
 pub mod Written
 pub mod Calls
+pub mod Area
 pub mod Opened
 pub mod Translation
 pub mod SecrecyProof

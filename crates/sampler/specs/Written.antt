@@ -18,7 +18,7 @@ module _ (checks : List Check) (end : ℕ) (shares : List ℕ) (zeros : ℕ) (ou
   abbrev filled : List ℕ → Buffers
   filled s = both (overwrite out 0 s) (overwrite work 0 (replicate zeros 0))
 
-  written-answer : o .answer ≡ verdict checks end
+  pub written-answer : o .answer ≡ verdict checks end
   written-answer = settled-answer (verdict checks end) (both out work) (filled shares)
 
   -- accepted or refused, it keeps what lies behind

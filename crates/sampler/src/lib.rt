@@ -11,7 +11,7 @@ ghost use Rattle.buffers.specs.Positions.{at, table, after, Same, Below};
 ghost use Rattle.checks.specs.Checks.{checked};
 ghost use Rattle.checks.specs.Answers.{checkedReading, outcome};
 ghost use Rattle.conversion.specs.Conversion.{bitWords};
-ghost use Rattle.conversion.specs.Arrays.{Drawn, Modulus};
+ghost use Rattle.conversion.specs.Drawn.{Drawn, Modulus};
 ghost use Rattle.sampler.specs.Sampler.{stringShare, sampleWords, sampleShares, pairChecks, sampleChecks, both, sampled};
 ghost use Rattle.sampler.specs.Totals.{signedSum};
 ghost use Rattle.sampler.specs.Secrecy.{Secrecy};

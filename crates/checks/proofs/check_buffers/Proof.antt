@@ -10,7 +10,7 @@ use Rattle.checks.proofs.check_buffers.Statement.{statement}
 use Rattle.checks.proofs.check_buffers.Tie as tie
 
 abbrev checks : tie.Start → List Check
-checks s = let a = s .args in bufferChecks (a .start) (a .bits * a .per) (a .q) (a .words .now) (a .shares) (a .room) (a .rows) (a .area)
+checks s = let a = s .args in bufferChecks (a .start) (a .bits * a .per) (a .q) (a .words .now) (a .shares) (a .room) (a .totals) (a .area)
 
 past9 : (c : tie.After-enum-told) → Past (checks (c .before .before .before .before)) 2
 past9 c = part-passed _ _ (c .before .before .check-words .ensures) tt _ (c .enum-told .given .1)

@@ -12,13 +12,13 @@ use Rattle.buffers.specs.Positions.{at, table, after}
 use Rattle.buffers.specs.PositionLaws.{after-zero, after-at, front-length}
 use Rattle.checks.specs.Width.{bit-lt}
 use Rattle.conversion.specs.Conversion.{bitsAt, pairs, convert}
-use Rattle.conversion.specs.Arrays.{drawn-part}
+use Rattle.conversion.specs.Drawn.{drawn-part}
 use Rattle.conversion.proofs.Steps.{pairs-fit, pairs-step, first-share, listed-below, over, share-added}
 use Rattle.conversion.proofs.convert.Statement.{statement}
 use Rattle.conversion.proofs.convert.Tie as tie
 
 abbrev Inv-loop : tie.InvT-loop
-Inv-loop shares t n q words start list₀ p₀ j₀ list p j = 
+Inv-loop shares t n q words start list₀ p₀ j₀ list p j =
     (2 ≤ j) × (j ≤ n) × (p ≡ start + pairs j) × (length list ≡ length list₀) × (list ≡ overwrite list₀ 0 (table j (convert q j (bitsAt (at shares) t) (after start (at words)))))
 
 abbrev μ-loop : tie.MeasureT-loop
@@ -87,7 +87,7 @@ bit-of-requires-2 : tie.Need-bit-of-requires-2 Inv-loop μ-loop
 bit-of-requires-2 c κs = search needs
 
 xor-share-requires : tie.Need-xor-share-requires Inv-loop μ-loop
-xor-share-requires c κs = 
+xor-share-requires c κs =
     let s = start c in
     let a = s .args in (
       rw (c .bit-of2 .ensures) (bit-lt _ _),
@@ -98,12 +98,12 @@ xor-share-requires c κs =
     )
 
 add-p : tie.Need-add-p Inv-loop μ-loop
-add-p c = 
+add-p c =
     let s = start (begun c) in
     omega (arith, pairs-fit 1 (s .args .n) (omega (arith, s .pre .1)), s .pre .4 .room)
 
 loop-holds : tie.Need-loop-holds Inv-loop μ-loop
-loop-holds c = 
+loop-holds c =
     let s = start (begun c) in
     let e : pairs 2 ≡ 1 = unfold pairs in refl in
     (omega arith, s .pre .1, omega arith, refl, two c ∙ sym (ap (λ (l : List ℕ). overwrite l 0 (table 2 (convert (s .args .q) 2 (bits s) (taken s)))) (two c) ∙ front-over _ _ _ (le-refl _)))
@@ -118,7 +118,7 @@ bit-of-requires-3 : tie.Need-bit-of-requires-3 Inv-loop μ-loop
 bit-of-requires-3 c κs = search needs
 
 xor-share-requires-2 : tie.Need-xor-share-requires-2 Inv-loop μ-loop
-xor-share-requires-2 c κs = 
+xor-share-requires-2 c κs =
     let t = turn c in
     let s = start (begun (t .before .before)) in
     let a = s .args in
@@ -131,7 +131,7 @@ xor-share-requires-2 c κs =
     )
 
 add-p-2 : tie.Need-add-p-2 Inv-loop μ-loop
-add-p-2 c = 
+add-p-2 c =
     let t = turn (c .before .before .before) in
     let s = start (begun (t .before .before)) in
     let l = t .before .loop in
@@ -144,7 +144,7 @@ loop-less : tie.Need-loop-less Inv-loop μ-loop
 loop-less c = search needs
 
 loop-again : tie.Need-loop-again Inv-loop μ-loop
-loop-again c = 
+loop-again c =
     let t = turn (c .before .before .before) in
     let l = t .before .loop in
     (omega (arith, l .inv .0), omega (arith, t .loop-test .taken), omega (arith, l .inv .2, pairs-step (l .j + 1) (l .j) (omega arith)), ap length (next c) ∙ front-length _ _ _ (omega (arith, room t, l .inv .3, t .loop-test .taken)), next c)
@@ -153,7 +153,7 @@ same-length : tie.Need-same-length Inv-loop μ-loop
 same-length c = c .before .loop .inv .3 ∙ two-length (c .before .before)
 
 returns : tie.Need-returns Inv-loop μ-loop
-returns c = 
+returns c =
     let s = start (begun (c .before .before)) in
     let l = c .before .loop in
     let e : l .j ≡ s .args .n = omega (arith, l .inv .1, c .loop-test .left) in (

@@ -1,15 +1,13 @@
 -- Steps 1 and 2 with the first half of the words, step 3 with the second.
-use mathlib.Core.Path.{_≡_}
 use Prim.Native.Nat.{ℕ, _<_}
 use native.Mathlib.Omega.{arith}
 use borrow.Author.Needs.{needs}
-use lib.ListN.{length}
 use Rattle.buffers.specs.Positions.{at, after}
 use Rattle.buffers.specs.PositionLaws.{after-at}
 use Rattle.checks.specs.Width.{bit-lt}
 use Rattle.conversion.specs.Conversion.{bitsAt, pairs}
 use Rattle.conversion.specs.Laws.{pairs-twice}
-use Rattle.conversion.specs.Arrays.{drawn-part}
+use Rattle.conversion.specs.Drawn.{drawn-part}
 use Rattle.conversion.proofs.Steps.{listed-below, bit-done}
 use Rattle.conversion.proofs.convert_at.Statement.{statement}
 use Rattle.conversion.proofs.convert_at.Tie as tie
@@ -25,12 +23,12 @@ first-lt : (s : tie.Start) → bits s 0 < s .args .q
 first-lt s = omega (arith, bit-lt (at (s .args .shares .now) 0) (s .args .t), s .pre .2 .large)
 
 convert-requires : tie.Need-convert-requires
-convert-requires c κs = 
+convert-requires c κs =
     let s = c .before .before .before .before in
     (s .pre .0, s .pre .1, s .pre .2, s .pre .3, drawn-part _ 0 _ (omega arith) (omega (arith, pairs-twice (s .args .n))) (s .pre .4), s .pre .5)
 
 refresh-requires : tie.Need-refresh-requires
-refresh-requires c κs = 
+refresh-requires c κs =
     let d = c .before .before .before in
     let s = start d in
     let a = s .args in
@@ -46,7 +44,7 @@ same-length : tie.Need-same-length
 same-length c = search needs
 
 returns : tie.Need-returns
-returns c = 
+returns c =
     let d = c .before .before .before .before .before .before in
     let s = start d in
     let a = s .args in

@@ -1,5 +1,5 @@
 -- The checks' verdict; a refusal comes before anything is written, and behind the checks the bit is converted.
-use mathlib.Core.Path.{_≡_, _∙_, ap, ap₂}
+use mathlib.Core.Path.{_∙_, ap, ap₂}
 use mathlib.Core.List.{List}
 use Prim.Native.Nat.{ℕ}
 use native.Mathlib.Omega.{arith}
@@ -36,7 +36,7 @@ enum-told : tie.Need-enum-told
 enum-told c = search needs
 
 convert-at-requires : tie.Need-convert-at-requires
-convert-at-requires c κs = 
+convert-at-requires c κs =
     let t = c .before in
     let h = holds t in
     let s = shared t in
@@ -47,7 +47,7 @@ same-length c = search needs
 
 returns-2 : tie.Need-returns-2
 unfolding converted
-returns-2 c = 
+returns-2 c =
     let t = c .before .before .before .before in
     let a = t .before .before .before .before .before .before .args in
     let s = shared t in

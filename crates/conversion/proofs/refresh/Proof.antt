@@ -14,14 +14,14 @@ use Rattle.conversion.proofs.refresh.Statement.{statement}
 use Rattle.conversion.proofs.refresh.Tie as tie
 
 abbrev Inv-loop2 : tie.InvT-loop2
-Inv-loop2 list₀ n q words start modulus p₀ i own₀ m₀ i-end list p own m = 
+Inv-loop2 list₀ n q words start modulus p₀ i own₀ m₀ i-end list p own m =
     (i < m) × (m ≤ n) × (p + (n - m) ≡ p₀ + (n - (i + 1))) × (own < q) × Kept q n list₀ list × Paired q n (at words) (refreshFrom q i (n - i) (after p₀ (at words)) (at list₀)) i m p list own
 
 abbrev μ-loop2 : tie.MeasureT-loop2
 μ-loop2 list₀ n q words start modulus p₀ i own₀ m₀ i-end list p own m = n - m
 
 abbrev Inv-loop : tie.InvT-loop
-Inv-loop list₀ n q words start modulus p₀ i₀ i-end list p i = 
+Inv-loop list₀ n q words start modulus p₀ i₀ i-end list p i =
     (i + 1 ≤ n) × (i-end ≡ n - 1) × (start ≤ p) × (p + pairs (n - i) ≡ start + pairs n) × Kept q n list₀ list × Remaining q n (at words) (refresh q n (after start (at words)) (at list₀)) i p list
 
 abbrev μ-loop : tie.MeasureT-loop
@@ -93,7 +93,7 @@ sub-i-end : tie.Need-sub-i-end Inv-loop2 μ-loop2 Inv-loop μ-loop
 sub-i-end c = search needs
 
 loop-holds : tie.Need-loop-holds Inv-loop2 μ-loop2 Inv-loop μ-loop
-loop-holds c = 
+loop-holds c =
     let s = c .before .before .before in
     let z : s .args .n - 0 ≡ s .args .n = omega arith in
     (omega (arith, s .pre .0), refl, omega arith, rw z, record { same-length = refl; below = s .pre .3; behind = λ i h. refl }, rw z)
@@ -111,7 +111,7 @@ add-m : tie.Need-add-m Inv-loop2 μ-loop2 Inv-loop μ-loop
 add-m c = search needs
 
 loop2-holds : tie.Need-loop2-holds Inv-loop2 μ-loop2 Inv-loop μ-loop
-loop2-holds c = 
+loop2-holds c =
     let t = c .before .before in
     let a = start t .args in
     let l = t .before .loop in
@@ -128,7 +128,7 @@ widen-requires-3 : tie.Need-widen-requires-3 Inv-loop2 μ-loop2 Inv-loop μ-loop
 widen-requires-3 c κs = search needs
 
 add-requires : tie.Need-add-requires Inv-loop2 μ-loop2 Inv-loop μ-loop
-add-requires c κs = 
+add-requires c κs =
     let t = turn (pair c .before) in
     let m = modulus t in
     (omega (arith, pair c .before .loop2 .inv .3), omega (arith, word c), omega (arith, start t .pre .1 .small))
@@ -143,7 +143,7 @@ widen-requires-4 : tie.Need-widen-requires-4 Inv-loop2 μ-loop2 Inv-loop μ-loop
 widen-requires-4 c κs = search needs
 
 sub-requires : tie.Need-sub-requires Inv-loop2 μ-loop2 Inv-loop μ-loop
-sub-requires c κs = 
+sub-requires c κs =
     let t = turn (pair (loaded c) .before) in
     let m = modulus t in
     let h = operands c in
@@ -168,7 +168,7 @@ loop2-less : tie.Need-loop2-less Inv-loop2 μ-loop2 Inv-loop μ-loop
 loop2-less c = search needs
 
 loop2-again : tie.Need-loop2-again Inv-loop2 μ-loop2 Inv-loop μ-loop
-loop2-again c = 
+loop2-again c =
     let d = loaded (c .before .before) in
     let l = pair d .before .loop2 in
     let t = turn (pair d .before) in
@@ -202,7 +202,7 @@ loop-less : tie.Need-loop-less Inv-loop2 μ-loop2 Inv-loop μ-loop
 loop-less c = search needs
 
 loop-again : tie.Need-loop-again Inv-loop2 μ-loop2 Inv-loop μ-loop
-loop-again c = 
+loop-again c =
     let l = c .before .before .loop2 in
     let t = turn (c .before .before) in
     let a = start t .args in
@@ -222,7 +222,7 @@ same-length : tie.Need-same-length Inv-loop2 μ-loop2 Inv-loop μ-loop
 same-length c = c .before .loop .inv .4 .same-length
 
 returns : tie.Need-returns Inv-loop2 μ-loop2 Inv-loop μ-loop
-returns c = 
+returns c =
     let s = c .before .before .before .before .before in
     let a = s .args in
     let l = c .before .loop in

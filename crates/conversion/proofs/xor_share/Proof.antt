@@ -20,7 +20,7 @@ use Rattle.conversion.proofs.xor_share.Statement.{statement}
 use Rattle.conversion.proofs.xor_share.Tie as tie
 
 abbrev Inv-loop : tie.InvT-loop
-Inv-loop list₀ j bit q words start modulus b sum₀ i₀ list sum i = 
+Inv-loop list₀ j bit q words start modulus b sum₀ i₀ list sum i =
     let r = after start (at words) in
     (i ≤ j) × (list ≡ overwrite list₀ 0 (table i (turned q j bit list₀ r))) × (length list ≡ length list₀) × (sum ≡ R.sum q i r)
 
@@ -93,7 +93,7 @@ widen-requires-4 : tie.Need-widen-requires-4 Inv-loop μ-loop
 widen-requires-4 c κs = search needs
 
 less-twice-requires : tie.Need-less-twice-requires Inv-loop μ-loop
-less-twice-requires c κs = 
+less-twice-requires c κs =
     let t = turn c in
     let s = start t in
     let b = t .before .before .widen2 .ensures in
@@ -106,7 +106,7 @@ slice-write-list : tie.Need-slice-write-list Inv-loop μ-loop
 slice-write-list c = search needs
 
 add-requires : tie.Need-add-requires Inv-loop μ-loop
-add-requires c κs = 
+add-requires c κs =
     let t = turn (c .before) in
     let s = start t in
     let m = t .before .before .before .widen .ensures in
@@ -119,7 +119,7 @@ loop-less : tie.Need-loop-less Inv-loop μ-loop
 loop-less c = search needs
 
 loop-again : tie.Need-loop-again Inv-loop μ-loop
-loop-again c = 
+loop-again c =
     let d = c .before .before in
     let t = turn d in
     let s = start t in
@@ -132,7 +132,7 @@ loop-again c =
     (omega arith, values-next _ _ _ _ _ (l .inv .1) v (omega (arith, s .pre .2)), length-set (l .list) (l .i) _ ∙ l .inv .2, running-next _ r _ _ _ (l .inv .3) (c .add .ensures ∙ add-cong m refl w))
 
 less-twice-requires-2 : tie.Need-less-twice-requires-2 Inv-loop μ-loop
-less-twice-requires-2 c κs = 
+less-twice-requires-2 c κs =
     let s = c .before .before .before .before .before .before in
     let b = c .before .before .widen2 .ensures in
     (summed (c .before), omega (arith, s .pre .1 .large), omega (arith, s .pre .0), s .pre .1 .small)
@@ -150,7 +150,7 @@ widen-requires-5 : tie.Need-widen-requires-5 Inv-loop μ-loop
 widen-requires-5 c κs = search needs
 
 add-requires-2 : tie.Need-add-requires-2 Inv-loop μ-loop
-add-requires-2 c κs = 
+add-requires-2 c κs =
     let d = c .before .before in
     let s = d .before .before .before .before .before .before .before in
     let m = d .before .before .before .before .widen .ensures in
@@ -159,7 +159,7 @@ add-requires-2 c κs =
     (omega arith, omega (arith, s .pre .0, s .pre .1 .large), omega (arith, s .pre .1 .small))
 
 narrow-requires : tie.Need-narrow-requires Inv-loop μ-loop
-narrow-requires c κs = 
+narrow-requires c κs =
     let d = c .before .before .before in
     let s = d .before .before .before .before .before .before .before in
     rw (c .add2 .ensures, d .before .before .before .before .widen .ensures) (add-lt _ (omega (arith, s .pre .1 .large)) _ _)
@@ -171,7 +171,7 @@ same-length : tie.Need-same-length Inv-loop μ-loop
 same-length c = search needs
 
 returns : tie.Need-returns Inv-loop μ-loop
-returns c = 
+returns c =
     let d = c .before .before .before .before in
     bit-added _ _ _ _ _ _ _ (filled d)
     (c .narrow .ensures ∙ c .before .add2 .ensures ∙ add-cong (d .before .before .before .before .widen .ensures) (c .before .before .widen5 .ensures ∙ first d) (d .before .before .before .widen2 .ensures))

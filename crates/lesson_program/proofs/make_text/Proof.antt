@@ -51,7 +51,7 @@ returns-2 : tie.Need-returns-2
 returns-2 c =
     let s = c .before .before .before .before .before .before .before .before .before .before .before .before .before .before .before .before .before in
     let w : 1792 ≤ length (s .args .words .now) = omega (arith, ap length (s .pre .2) ∙ length-replicate {A = ℕ} 1792 0) in
-    absurd (never-refused _ _ _ _ _ _ _ _ _ (c .before .before .before .before .before .before .before .before .write-text .ensures) record { word-room = w; share-room = omega arith; row-room = omega arith } (omega (arith, s .pre .3, room-le (length (take (s .args .count) (s .args .buffer .now))))) _ (c .enum-told .given .1))
+    absurd (never-refused _ _ _ _ _ _ _ _ _ (c .before .before .before .before .before .before .before .before .write-text .ensures) record { word-room = w; share-room = omega arith; total-room = omega arith } (omega (arith, s .pre .3, room-le (length (take (s .args .count) (s .args .buffer .now))))) _ (c .enum-told .given .1))
 
 pub make-text-spec : {M : Type 1} → statement M
 make-text-spec =

@@ -8,7 +8,7 @@ use borrow.Author.Needs.{needs}
 use Rattle.checks.specs.Laws.{Hold, checks-hold, settles-accepted, settles-refused}
 use Rattle.buffers.specs.Positions.{at}
 use Rattle.buffers.specs.PositionLaws.{front-zeros}
-use Rattle.conversion.specs.Arrays.{Drawn}
+use Rattle.conversion.specs.Drawn.{Drawn}
 use Rattle.sampler.specs.Sampler.{both}
 use Rattle.sampler.specs.Secrecy.{Room}
 use Rattle.sampler.specs.Accepted.{pair-large, fit-drawn, fit-room}
@@ -55,7 +55,7 @@ zero-requires : tie.Need-zero-requires
 zero-requires c κs = (first-pair (strings (c .before)) .eight, room (c .before) .1)
 
 write-coefficients-requires : tie.Need-write-coefficients-requires
-write-coefficients-requires c κs = 
+write-coefficients-requires c κs =
     let z = c .before .before .before .before in
     let t = passed z in
     let S = strings t in
@@ -80,7 +80,7 @@ same-length-2 c = search needs
 
 returns-2 : tie.Need-returns-2
 unfolding sampledPolynomial
-returns-2 c = 
+returns-2 c =
     let w = c .before .before .before .before in
     let z = w .before .before .before .before .before in
     let d = passed z in

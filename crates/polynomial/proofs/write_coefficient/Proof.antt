@@ -49,7 +49,7 @@ part-write-sample-end-3 : tie.Need-part-write-sample-end-3
 part-write-sample-end-3 c = search needs
 
 write-sample-requires : tie.Need-write-sample-requires
-write-sample-requires c κs = 
+write-sample-requires c κs =
     let s = c .before .before .before .before .before .before .before .before .before in
     let a = s .args in
     rw (part-block (a .n) (a .t) (a .x .now), part-block (a .n) (a .t) (a .y .now), part-block (a .n) (a .t) (a .out .now)) (
@@ -72,7 +72,7 @@ same-length-2 : tie.Need-same-length-2
 same-length-2 c = c .before .work .given
 
 returns : tie.Need-returns
-returns c = 
+returns c =
     let d = c .before .before .before .before in
     let s = d .before .before .before .before .before .before .before .before .before .before in
     let e = d .write-sample .ensures in

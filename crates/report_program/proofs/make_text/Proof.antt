@@ -47,7 +47,7 @@ same-length-4 c = search needs
 returns-2 : tie.Need-returns-2
 returns-2 c =
     let s = c .before .before .before .before .before .before .before .before .before .before .before .before .before .before .before .before .before in
-    absurd (never-refused _ _ _ _ _ _ _ _ _ (c .before .before .before .before .before .before .before .before .write-text .ensures) record { word-room = s .pre .2; share-room = omega arith; row-room = omega arith } (s .pre .3) _ (c .enum-told .given .1))
+    absurd (never-refused _ _ _ _ _ _ _ _ _ (c .before .before .before .before .before .before .before .before .write-text .ensures) record { word-room = s .pre .2; share-room = omega arith; total-room = omega arith } (s .pre .3) _ (c .enum-told .given .1))
 
 pub make-text-spec : {M : Type 1} → statement M
 make-text-spec =

@@ -18,7 +18,7 @@ use Rattle.sampler.proofs.add_row.Statement.{statement}
 use Rattle.sampler.proofs.add_row.Tie as tie
 
 abbrev Inv-loop : tie.InvT-loop
-Inv-loop row n q negative work₀ modulus i₀ work i = 
+Inv-loop row n q negative work₀ modulus i₀ work i =
     (i ≤ n) × (work ≡ overwrite work₀ 0 (table i (λ t. signedSum q negative (at work₀ t) (at row t)))) × (length work ≡ length work₀)
 
 abbrev μ-loop : tie.MeasureT-loop
@@ -81,21 +81,21 @@ widen-requires-3 : tie.Need-widen-requires-3 Inv-loop μ-loop
 widen-requires-3 c κs = search needs
 
 sub-requires : tie.Need-sub-requires Inv-loop μ-loop
-sub-requires c κs = 
+sub-requires c κs =
     let t = turn (c .before) in
     let m = modulus t in
     let o = operands (c .before) in
     (omega arith, omega arith, omega (arith, start t .pre .1 .small))
 
 add-requires : tie.Need-add-requires Inv-loop μ-loop
-add-requires c κs = 
+add-requires c κs =
     let t = turn (c .before) in
     let m = modulus t in
     let o = operands (c .before) in
     (omega arith, omega arith, omega (arith, start t .pre .1 .small))
 
 narrow-requires : tie.Need-narrow-requires Inv-loop μ-loop
-narrow-requires c κs = 
+narrow-requires c κs =
     let s = start (turn (c .before)) in
     let i = turn (c .before) .before .loop .i in
     rw (next c) (signed-lt (s .args .q) (omega (arith, s .pre .1 .large)) (s .args .negative) (at (s .args .work .now) i) (at (s .args .row .now) i))
@@ -113,7 +113,7 @@ loop-less : tie.Need-loop-less Inv-loop μ-loop
 loop-less c = search needs
 
 loop-again : tie.Need-loop-again Inv-loop μ-loop
-loop-again c = 
+loop-again c =
     let l = turn (c .before .before) .before .loop in
     let s = start (turn (c .before .before)) in
     (omega arith, values-next _ _ _ _ _ (l .inv .1) (c .narrow .ensures ∙ next (c .before)) (omega (arith, s .pre .3)), length-set (l .work) (l .i) _ ∙ l .inv .2)

@@ -9,7 +9,7 @@ use Rattle.buffers.specs.Positions.{at, table, after, Same, Below}
 use Rattle.buffers.specs.PositionLaws.{front-length}
 use Rattle.buffers.specs.Blocks.{block-fits}
 use Rattle.conversion.specs.Conversion.{bitWords}
-use Rattle.conversion.specs.Arrays.{drawn-part}
+use Rattle.conversion.specs.Drawn.{drawn-part}
 use Rattle.sampler.specs.Sampler.{row}
 use Rattle.sampler.specs.Laws.{row-lt}
 use Rattle.sampler.proofs.Steps.{row-from, totalsOf, totals-none, totals-below, totals-length, totals-next}
@@ -17,7 +17,7 @@ use Rattle.sampler.proofs.add_string.Statement.{statement}
 use Rattle.sampler.proofs.add_string.Tie as tie
 
 abbrev Inv-loop : tie.InvT-loop
-Inv-loop shares n k q words start negative work₀ p₀ row₀ bit₀ work p row bit = 
+Inv-loop shares n k q words start negative work₀ p₀ row₀ bit₀ work p row bit =
     (bit ≤ k) × (p ≡ start + bit * bitWords n) × (length row ≡ 8) × (work ≡ overwrite work₀ 0 (table n (totalsOf n q negative (at shares) (after start (at words)) work₀ bit)))
 
 abbrev μ-loop : tie.MeasureT-loop
@@ -47,7 +47,7 @@ made : (c : tie.After-convert-at Inv-loop μ-loop) → let s = start (turn c .be
 made c = let s = start (turn c .before) in row-from _ _ (turn c .before .loop .bit) (s .args .start) _ _ (at (s .args .words .now)) _ _ (turn c .before .loop .inv .1) (c .convert-at .ensures .0)
 
 loop-holds : tie.Need-loop-holds Inv-loop μ-loop
-loop-holds c = 
+loop-holds c =
     let s = c .before .before .before in
     (omega arith, omega arith, refl, totals-none _ _ (positive s) (s .args .negative) (at (s .args .shares .now)) (words s) _ (s .pre .6) (s .pre .7))
 
@@ -55,7 +55,7 @@ slice-aggregate-convert-at : tie.Need-slice-aggregate-convert-at Inv-loop μ-loo
 slice-aggregate-convert-at c = search needs
 
 convert-at-requires : tie.Need-convert-at-requires Inv-loop μ-loop
-convert-at-requires c κs = 
+convert-at-requires c κs =
     let t = c .before in
     let l = t .before .loop in
     let s = start (t .before) in
@@ -63,7 +63,7 @@ convert-at-requires c κs =
     (omega (arith, t .loop-test .taken, s .pre .2), s .pre .0, s .pre .3, s .pre .4, drawn-part _ (l .bit * w) _ (l .inv .1) (block-fits w (t .loop-test .taken)) (s .pre .5), omega (arith, l .inv .2, s .pre .1))
 
 add-row-requires : tie.Need-add-row-requires Inv-loop μ-loop
-add-row-requires c κs = 
+add-row-requires c κs =
     let d = c .before .before .before in
     let t = turn d .before in
     let s = start t in
@@ -76,7 +76,7 @@ loop-less : tie.Need-loop-less Inv-loop μ-loop
 loop-less c = search needs
 
 loop-again : tie.Need-loop-again Inv-loop μ-loop
-loop-again c = 
+loop-again c =
     let e = c .before .before in
     let d = e .before .before .before .before in
     let t = turn d in
@@ -92,7 +92,7 @@ same-length : tie.Need-same-length Inv-loop μ-loop
 same-length c = room (c .before)
 
 returns : tie.Need-returns Inv-loop μ-loop
-returns c = 
+returns c =
     let l = c .before .loop in
     let s = start (c .before) in
     let a = s .args in

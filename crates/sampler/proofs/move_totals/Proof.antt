@@ -14,7 +14,7 @@ use Rattle.sampler.proofs.move_totals.Statement.{statement}
 use Rattle.sampler.proofs.move_totals.Tie as tie
 
 abbrev Inv-loop : tie.InvT-loop
-Inv-loop work₀ n out₀ i₀ work out i = 
+Inv-loop work₀ n out₀ i₀ work out i =
     (i ≤ n) × (work ≡ overwrite work₀ 0 (table i (λ t. 0))) × (out ≡ overwrite out₀ 0 (table i (at work₀))) × (length work ≡ length work₀) × (length out ≡ length out₀)
 
 abbrev μ-loop : tie.MeasureT-loop
@@ -48,7 +48,7 @@ loop-less : tie.Need-loop-less Inv-loop μ-loop
 loop-less c = search needs
 
 loop-again : tie.Need-loop-again Inv-loop μ-loop
-loop-again c = 
+loop-again c =
     let l = c .before .before .loop in
     let s = c .before .before .before in
     let e = ap (λ (m : List ℕ). at m (l .i)) (l .inv .1) ∙ front-behind _ _ _ _ (le-refl _) in

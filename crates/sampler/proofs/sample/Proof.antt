@@ -1,5 +1,5 @@
 -- The checks' verdict; a refusal comes before anything is written, and behind the checks all is ready for the sample.
-use mathlib.Core.Path.{_≡_, ap, _∙_}
+use mathlib.Core.Path.{ap, _∙_}
 use mathlib.Core.List.{List}
 use Prim.Native.Nat.{ℕ, _+_}
 use native.Mathlib.Omega.{arith}
@@ -7,7 +7,7 @@ use lib.ListN.{length}
 use borrow.Author.Needs.{needs}
 use Rattle.buffers.specs.Positions.{at}
 use Rattle.buffers.specs.PositionLaws.{front-zeros}
-use Rattle.conversion.specs.Arrays.{Drawn}
+use Rattle.conversion.specs.Drawn.{Drawn}
 use Rattle.checks.specs.Laws.{Hold, checks-hold, settles-accepted, settles-refused}
 use Rattle.sampler.specs.Sampler.{sampleWords, pairChecks, sampleChecks, both, sampled}
 use Rattle.sampler.specs.Secrecy.{Room}
@@ -53,7 +53,7 @@ zero-requires : tie.Need-zero-requires
 zero-requires c κs = (pair (c .before) .eight, room (c .before) .1)
 
 write-sample-requires : tie.Need-write-sample-requires
-write-sample-requires c κs = 
+write-sample-requires c κs =
     let z = c .before .before .before .before in
     let t = passed z in
     let p = pair t in
@@ -78,7 +78,7 @@ same-length-2 c = search needs
 
 returns-2 : tie.Need-returns-2
 unfolding sampled
-returns-2 c = 
+returns-2 c =
     let w = c .before .before .before .before in
     let z = w .before .before .before .before .before in
     let d = passed z in

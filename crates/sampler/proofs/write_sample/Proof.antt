@@ -1,13 +1,13 @@
 -- The rows of x added, those of y taken off, and the totals moved.
-use mathlib.Core.Path.{_≡_, ap, _∙_}
+use mathlib.Core.Path.{ap, _∙_}
 use mathlib.Core.Bool.{false}
-use Prim.Native.Nat.{ℕ, _*_, _<_}
+use Prim.Native.Nat.{_*_, _<_}
 use native.Mathlib.Omega.{arith}
 use borrow.Author.Needs.{needs}
 use Rattle.buffers.specs.Overwrite.{overwrite}
 use Rattle.buffers.specs.Positions.{at, after}
 use Rattle.conversion.specs.Conversion.{bitWords}
-use Rattle.conversion.specs.Arrays.{drawn-part}
+use Rattle.conversion.specs.Drawn.{drawn-part}
 use Rattle.sampler.proofs.Steps.{totals-below, totals-shares, totals-cleared}
 use Rattle.sampler.proofs.write_sample.Statement.{statement}
 use Rattle.sampler.proofs.write_sample.Tie as tie
@@ -26,12 +26,12 @@ positive : (s : tie.Start) → 0 < s .args .q
 positive s = omega (arith, s .pre .3 .large)
 
 add-string-requires : tie.Need-add-string-requires
-add-string-requires c κs = 
+add-string-requires c κs =
     let s = c .before .before .before .before .before .before in
     (s .pre .0, s .pre .1, s .pre .2, s .pre .3, s .pre .4, drawn-part _ 0 _ (omega arith) (omega arith) (s .pre .6), s .pre .8, (λ i h. rw (s .pre .9 i h) (positive s)))
 
 add-string-requires-2 : tie.Need-add-string-requires-2
-add-string-requires-2 c κs = 
+add-string-requires-2 c κs =
     let d = c .before .before .before in
     let s = start d in
     let a = s .args in
@@ -56,7 +56,7 @@ same-length-2 : tie.Need-same-length-2
 same-length-2 c = search needs
 
 returns : tie.Need-returns
-returns c = 
+returns c =
     let m = c .before .before .before .before in
     let e = first (second m) .add-string .ensures in
     let f = second m .add-string2 .ensures in
