@@ -7,7 +7,7 @@ use native.Mathlib.Numerals.{add-one}
 use native.Mathlib.Decide.{decLe}
 use native.Mathlib.Omega.{arith}
 use lib.ListN.{length, getD, set, take, drop, length-append, drop-of-length-le, List·getD-append}
-use lib.Seq.{getD-drop, getD-append-add, length-take-le, take-all, take-length, take-at, drop-at, drop-append-add, drop-drop, drop-cons, set-at, append-snoc, paste, paste-zero, paste-suc, length-paste}
+use lib.Seq.{getD-drop, getD-append-add, length-take-le, take-all, take-length, take-suc, take-at, drop-at, drop-append-add, drop-drop, drop-cons, set-at, append-snoc, paste, paste-zero, paste-suc, length-paste}
 use Rattle.buffers.specs.Overwrite.{overwrite}
 
 -- ---- one element at a time: s is written as far as its first i elements
@@ -94,6 +94,17 @@ module _ (l s : List ℕ) where
   -- of a list of which only the front was changed before
   pub front-again : (t : List ℕ) (n : ℕ) → length s ≡ n → drop n t ≡ drop n l → overwrite t 0 s ≡ overwrite l 0 s
   front-again t n e d = front t s ∙ ap (λ (r : List ℕ). s ++ r) (rw e d) ∙ sym (front l s)
+
+-- ---- element after element in front, as many as there are
+
+module _ (l s : List ℕ) (i : ℕ) where
+  pub taken-next : (t : List ℕ) (v : ℕ) → t ≡ overwrite l 0 (take i s) → v ≡ getD s i 0 → i < length s → i < length l → set t i v ≡ overwrite l 0 (take (i + 1) s)
+  taken-next t v e d h m =
+      let n = length-take-le i s (omega arith) in
+      rw (e, d, add-one i, take-suc s i 0 h, ← front-snoc l (take i s) (getD s i 0) (omega arith), n)
+
+  pub taken-all : length s ≤ i → overwrite l 0 (take i s) ≡ overwrite l 0 (take (i + 1) s)
+  taken-all h = ap (overwrite l 0) (take-all i s h ∙ sym (take-all (i + 1) s (omega arith)))
 
 -- the one front over the other, which is not longer
 pub front-over : (l s r : List ℕ) → length s ≤ length r → overwrite (overwrite l 0 s) 0 r ≡ overwrite l 0 r

@@ -9,7 +9,7 @@ use native.Mathlib.Decide.{decLt, ℕ-discrete}
 use native.Mathlib.Omega.{arith}
 use borrow.Author.Tests.{lt-ltb, le-ltb}
 use lib.ListN.{length, set, take, drop, replicate, length-replicate, getD-replicate, List·getD-eq-default}
-use lib.Seq.{getD-set-same, getD-set-other, getD-take, getD-drop}
+use lib.Seq.{getD-set-same, getD-set-other, getD-take, getD-drop, take-all}
 use Rattle.residue.specs.Residue.{EachBelow}
 use Rattle.buffers.specs.Overwrite.{overwrite}
 use Rattle.buffers.specs.Laws.{length-overwrite, front-below, front-from}
@@ -97,6 +97,10 @@ set-agrees l i v f h e j a = go (ℕ-discrete j i)
 
 pub take-same : (n : ℕ) (l m : List ℕ) → take n l ≡ take n m → Same n (at l) (at m)
 take-same n l m e i h = sym (getD-take n l i 0 h) ∙ ap (λ (r : List ℕ). at r i) e ∙ getD-take n m i 0 h
+
+-- a list that was copied to the front of another, none of it cut off
+pub front-same : (l s t : List ℕ) (n : ℕ) → t ≡ overwrite l 0 (take n s) → length s ≤ n → Same (length s) (at t) (at s)
+front-same l s t n e h i m = ap (λ (r : List ℕ). at r i) (e ∙ ap (overwrite l 0) (take-all n s h)) ∙ front-below l s i m
 
 pub front-zeros : (l : List ℕ) (n : ℕ) → Same n (at (overwrite l 0 (replicate n 0))) (λ i. 0)
 front-zeros l n i h = front-below l (replicate n 0) i (omega (arith, length-replicate {A = ℕ} n 0)) ∙ getD-replicate {A = ℕ} n i 0 0 h

@@ -2,7 +2,7 @@
 use residue::Word;
 ghost use mathlib.Core.Path.{_≡_};
 ghost use Prim.Native.Nat.{_+_, _≤_};
-ghost use lib.ListN.{length, replicate};
+ghost use lib.ListN.{length, replicate, take};
 ghost use Rattle.buffers.specs.Overwrite.{overwrite};
 
 // The elements of `from`, at `start` and behind.
@@ -12,6 +12,19 @@ pub fn copy(to: &mut [u16], start: usize, from: &[u16])
 {
     for i in 0..from.len() {
         to[start + i] = from[i];
+    }
+}
+
+// The first eight elements of `from`, or all where there are fewer, in front. Eight turns, so that they are single stores and no call.
+pub fn copy_eight(to: &mut [u16], from: &[u16])
+    requires { ⌜ 8 ≤ length (now to) ⌝ }
+    ensures { λ _. ⌜ now (to .exit) ≡ overwrite (now (to .entry)) 0 (take 8 (now (from .entry))) ⌝ }
+{
+    let count = from.len();
+    for i in 0..8 {
+        if i < count {
+            to[i] = from[i];
+        }
     }
 }
 

@@ -1,27 +1,27 @@
--- Facts of the code's steps, which are made in front of a list.
-use mathlib.Core.Path.{_≡_, refl, sym, ap, _∙_, fun-ext}
-use mathlib.Core.Bool.{cond}
-use mathlib.Core.List.{List, _∷_, _++_}
+-- Facts of the code's steps.
+use mathlib.Core.Path.{_≡_, refl, sym, ap, _∙_}
+use mathlib.Core.List.{List}
 use Prim.Native.Nat.{ℕ, zero, suc, _+_, _-_, _*_, _≤_, _<_}
 use native.Mathlib.Nat as N
-use native.Mathlib.Decide.{ℕ-discrete}
-use native.Mathlib.Numerals.{add-one}
 use native.Mathlib.Omega.{arith}
-use borrow.Author.Tests.{eq-eqb, ne-eqb}
-use lib.Dec.{eqb}
-use lib.ListN.{length, set, drop, length-set}
-use lib.Seq.{getD-set-same, getD-set-other, getD-drop}
+use lib.ListN.{length, set, drop, replicate, length-set}
+use lib.Seq.{getD-set-other, getD-drop}
 use Rattle.residue.specs.Residue.{sub, neg, add, sum, cswapSub}
-use Rattle.residue.specs.Laws.{reduce-small, reduce-lt, reduce-add, add-lt, neg-sub, sub-zero}
-use Rattle.buffers.specs.Overwrite.{overwrite}
-use Rattle.buffers.specs.Laws.{front, front-over}
+use Rattle.residue.specs.Laws.{reduce-small, reduce-lt, reduce-add, add-zero, add-comm, add-assoc, add-lt, neg-sub, sub-zero}
+use Rattle.residue.specs.Sum.{running-none, running-next, running-all, sum-last, sum-lt}
 use Rattle.buffers.specs.Positions.{at, table, after, Same, Below}
-use Rattle.buffers.specs.PositionLaws.{after-after, length-table, table-same, front-at}
-use Rattle.buffers.specs.Rows.{values-none, values-next}
+use Rattle.buffers.specs.PositionLaws.{table-same, after-after, set-agrees}
 use Rattle.checks.specs.Width.{bit-lowest}
-use Rattle.conversion.specs.Conversion.{bitsAt, pairs, extend, lessTwice, xorBit, xorShare, convert, transfer, refreshShare, refreshFrom, refresh, convertBit, bitShares}
-use Rattle.conversion.specs.ZeroSharing.{refresh-cong}
+use Rattle.conversion.specs.Conversion.{bitsAt, pairs, extend, lessTwice, xorBit, xorShare, convert, refresh, convertBit, bitShares}
+use Rattle.conversion.specs.ZeroSharing.{zeroSharing, refresh-adds, refresh-cong}
 use Rattle.conversion.specs.Laws.{lessTwice-zero, lessTwice-one, extend-below, extend-from, xorShare-cong, convert-reduced, convertBit-local}
+use Rattle.conversion.specs.Arrays.{Holds}
+
+-- ---- an array that is filled from the front
+
+pub holds-next : (i v : ℕ) (f : ℕ → ℕ) (a : List ℕ) → i < 8 → v ≡ f i → Holds i f a → Holds (i + 1) f (set a i v)
+holds-next i v f a l e A =
+    record { eight = length-set a i v ∙ A .eight; same = λ j m. set-agrees a i v f (omega (arith, A .eight)) e j (λ d. A .same j (omega arith)) }
 
 -- ---- a difference, less twice its product with a bit
 
@@ -34,167 +34,198 @@ pub lessTwice-lt : (q v b : ℕ) → 0 < q → lessTwice q b v < q
 unfolding lessTwice
 lessTwice-lt q v b p = add-lt q p v (neg q (2 * v * b))
 
--- ---- step 2
+-- ---- the loop of step 2
 
-module _ (q j bit : ℕ) (l : List ℕ) (r : ℕ → ℕ) where
-  -- C(i), without the bit in the first
-  abbrev pub turned : ℕ → ℕ
-  turned i = lessTwice q bit (extend q j (at l) r i)
+module _ (q j bit : ℕ) (A r : ℕ → ℕ) where
+  -- after i turns: c has its shares up to j, without the bit in the first, and s is the sum of the words met
+  pub record Turned (i : ℕ) (c : List ℕ) (s : ℕ) : Type 0 where
+    pub eight : length c ≡ 8
+    pub done : (t : ℕ) → t < i → t ≤ j → at c t ≡ lessTwice q bit (extend q j A r t)
+    pub summed : i ≤ j → s ≡ sum q i r
+    pub all-summed : j ≤ i → s ≡ sum q j r
 
-  pub turned-below : (i : ℕ) → i < j → lessTwice q bit (sub q (at l i) (r i)) ≡ turned i
-  turned-below i h = ap (lessTwice q bit) (sym (extend-below q j (at l) r i h))
+  module _ (i : ℕ) (c : List ℕ) (s : ℕ) (T : Turned i c s) where
+    stored : (v : ℕ) → i < 8 → v ≡ lessTwice q bit (extend q j A r i) → (t : ℕ) → t < i + 1 → t ≤ j → at (set c i v) t ≡ lessTwice q bit (extend q j A r t)
+    stored v h e t l m = set-agrees c i v (λ k. lessTwice q bit (extend q j A r k)) (omega (arith, T .eight)) e t (λ d. T .done t (omega arith) m)
 
-  pub turned-last : (s : ℕ) → s ≡ sum q j r → s < q → lessTwice q bit (sub q s 0) ≡ turned j
-  turned-last s e h = ap (lessTwice q bit) (sub-zero q (omega arith) s ∙ reduce-small q h ∙ e ∙ sym (extend-from q j (at l) r j (N.le-refl j)))
+    pub turned-lt : 0 < q → i ≤ j → s < q
+    turned-lt p l = rw (T .summed l) (sum-lt q p i r)
 
-  -- the bit is added to the first
-  pub bit-added : (t : List ℕ) (v : ℕ) → t ≡ overwrite l 0 (table (j + 1) turned) → v ≡ add q (turned 0) bit → set t 0 v ≡ overwrite l 0 (table (j + 1) (xorShare q j (at l) r bit))
-  unfolding table xorShare xorBit
-  bit-added t v e d =
-      rw (add-one j) (
-      ap (λ (m : List ℕ). set m 0 v) (e ∙ ap (λ (n : ℕ). overwrite l 0 (table n turned)) (add-one j) ∙ front l (table (suc j) turned))
-      ∙ ap (λ (a : ℕ). a ∷ (table j (λ i. turned (suc i)) ++ drop (suc (length (table j (λ i. turned (suc i))))) l)) d
-      ∙ sym (front l (table (suc j) (xorBit q bit (extend q j (at l) r)))))
+    pub turned-below : (v z : ℕ) → i < 8 → i < j → v ≡ lessTwice q bit (sub q (A i) (r i)) → z ≡ add q s (r i) → Turned (i + 1) (set c i v) z
+    turned-below v z h l e d =
+        let more : z ≡ sum q (i + 1) r = running-next q r i s z (T .summed (omega arith)) d in
+        record {
+          eight = length-set c i v ∙ T .eight;
+          done = stored v h (e ∙ ap (lessTwice q bit) (sym (extend-below q j A r i l)));
+          summed = λ m. more;
+          all-summed = λ m. running-all q r (i + 1) j z (omega arith) more;
+        }
+
+    pub turned-at : (v : ℕ) → 0 < q → i < 8 → i ≡ j → v ≡ lessTwice q bit (sub q s 0) → Turned (i + 1) (set c i v) s
+    turned-at v p h l e =
+        record {
+          eight = length-set c i v ∙ T .eight;
+          done = stored v h (e ∙ ap (lessTwice q bit) (sub-zero q p s ∙ reduce-small q (turned-lt p (omega arith)) ∙ T .all-summed (omega arith) ∙ sym (extend-from q j A r i (omega arith))));
+          summed = λ m. absurd (omega arith);
+          all-summed = λ m. T .all-summed (omega arith);
+        }
+
+    pub turned-past : j < i → Turned (i + 1) c s
+    turned-past l = record { eight = T .eight; done = λ t m k. T .done t (omega arith) k; summed = λ m. absurd (omega arith); all-summed = λ m. T .all-summed (omega arith) }
+
+    -- the bit is added to the first share
+    pub turned-all : (v : ℕ) → j < i → v ≡ add q (at c 0) bit → Holds (j + 1) (xorShare q j A r bit) (set c 0 v)
+    unfolding xorShare xorBit
+    turned-all v h e = record { eight = length-set c 0 v ∙ T .eight; same = λ t l. set-agrees c 0 v (xorBit q bit (extend q j A r)) (omega (arith, T .eight)) (e ∙ ap (λ (z : ℕ). add q z bit) (T .done 0 (omega arith) (omega arith))) t (other t l) }
+      where
+        other : (t : ℕ) → t < j + 1 → (t ≡ 0 → ⊥) → at c t ≡ xorBit q bit (extend q j A r) t
+        other zero l d = absurd (d refl)
+        other (suc t) l d = T .done (suc t) (omega arith) (omega arith)
+
+  pub turned-none : Turned 0 (replicate 8 0) 0
+  turned-none = record { eight = refl; done = λ t l m. absurd (omega arith); summed = λ m. running-none q r; all-summed = λ m. none (omega arith) }
+    where
+      none : j ≡ 0 → 0 ≡ sum q j r
+      none e = unfold sum in rw e
 
 -- ---- steps 1 and 2
+
+pub pairs-one : pairs 1 ≡ 0
+unfolding pairs
+pairs-one = refl
 
 pub pairs-step : (n k : ℕ) → n ≡ suc k → pairs n ≡ pairs k + k
 unfolding pairs
 pairs-step n k e = rw e
 
-pub pairs-fit : (j n : ℕ) → j < n → pairs j + j ≤ pairs n
-unfolding pairs
-pairs-fit j zero h = absurd (omega arith)
-pairs-fit j (suc n) h = go (ℕ-discrete j n) (pairs-fit j n)
-  where
-    go : Dec (j ≡ n) → (j < n → pairs j + j ≤ pairs n) → pairs j + j ≤ pairs n + n
-    go (yes e) f = N.le-of-eq (rw e)
-    go (no d) f = omega (arith, f (omega arith))
-
 pub products : (a b : ℕ) → a ≤ 8 → b ≤ 8 → a * b ≤ 64
 products a b h l = N.mul-le-mul h l
 
-module _ (q : ℕ) (b w : ℕ → ℕ) (l : List ℕ) where
-  pub first-share : (v : ℕ) → v ≡ b 0 → 0 < length l → set l 0 v ≡ overwrite l 0 (table 1 (convert q 1 b w))
+module _ (q : ℕ) (b w : ℕ → ℕ) where
+  pub one-list : (k v : ℕ) (a : List ℕ) → k ≡ 1 → v ≡ b 0 → Holds 1 (λ i. v) a → Holds k (convert q k b w) a
   unfolding convert
-  first-share v e h = values-next l (convert q 1 b w) 0 v l (values-none l _) e h
+  one-list k v a e h A = rw e (record { eight = A .eight; same = λ t l. A .same t l ∙ h })
 
-  module _ (n : ℕ) (t : List ℕ) (e : t ≡ overwrite l 0 (table n (convert q n b w))) where
-    listed : Same n (at t) (convert q n b w)
-    listed i h = ap (λ (m : List ℕ). at m i) e ∙ front-at l n (convert q n b w) i h
+  pub holds-below : (n : ℕ) (a : List ℕ) → 0 < q → b 0 < q → Holds n (convert q n b w) a → Below q n (at a)
+  holds-below n a p h H i l = rw (H .same i l, ← convert-reduced q n b w h i) (reduce-lt q p (convert q n b w i))
 
-    pub listed-below : 0 < q → b 0 < q → Below q n (at t)
-    listed-below p h i k = rw (listed i k, ← convert-reduced q n b w h i) (reduce-lt q p (convert q n b w i))
+  -- the list for one share more
+  pub share-added : (j k : ℕ) (a c : List ℕ) (r : ℕ → ℕ) (bit : ℕ) → j ≡ suc k → 0 < k → r ≡ after (pairs k) w → bit ≡ b k → Holds k (convert q k b w) a → Holds (k + 1) (xorShare q k (at a) r bit) c → Holds j (convert q j b w) c
+  unfolding convert
+  share-added j zero a c r bit d h s e A R = absurd (omega arith)
+  share-added j (suc m) a c r bit d h s e A R =
+      rw d (record { eight = R .eight; same = λ t l. R .same t (omega arith) ∙ rw e (ap (λ (f : ℕ → ℕ). f t) (xorShare-cong q (suc m) (b (suc m)) _ _ _ _ (A .same) (λ i x. ap (λ (f : ℕ → ℕ). f i) s))) })
 
-    -- what is written over it in front
-    pub over : (u : List ℕ) (m : ℕ) (f g : ℕ → ℕ) → n ≤ m → Same m f g → u ≡ overwrite t 0 (table m f) → u ≡ overwrite l 0 (table m g)
-    over u m f g h s d =
-        let x : length (table n (convert q n b w)) ≤ length (table m g) = omega (arith, length-table n (convert q n b w), length-table m g) in
-        d ∙ ap (overwrite t 0) (table-same m f g s) ∙ ap (λ (k : List ℕ). overwrite k 0 (table m g)) e ∙ front-over l _ _ x
+  -- and all steps
+  pub bit-done : (n : ℕ) (a : List ℕ) (r : ℕ → ℕ) → b 0 < q → r ≡ after (pairs n) w → Holds n (convert q n b w) a → table n (refresh q n r (at a)) ≡ table n (convertBit q n b w)
+  unfolding convertBit
+  bit-done n a r h e A = rw e (table-same n _ _ (refresh-cong q n (after (pairs n) w) (at a) (convert q n b w) (λ t l. convert-reduced q n b w h t) (A .same)))
 
-    one-more : (k : ℕ) (r : ℕ → ℕ) (bit : ℕ) → n ≡ suc k → r ≡ after (pairs n) w → bit ≡ b n → xorShare q n (at t) r bit ≡ convert q (n + 1) b w
-    unfolding convert
-    one-more k r bit e s d =
-        xorShare-cong q n bit (at t) (convert q n b w) r (after (pairs n) w) listed (λ i h. ap (λ (f : ℕ → ℕ). f i) s)
-        ∙ rw (d, add-one n, e)
+-- ---- the loops of step 3
 
-    -- the list for one share more
-    pub share-added : (u : List ℕ) (r : ℕ → ℕ) (bit : ℕ) → 0 < n → r ≡ after (pairs n) w → bit ≡ b n → u ≡ overwrite t 0 (table (n + 1) (xorShare q n (at t) r bit)) → u ≡ overwrite l 0 (table (n + 1) (convert q (n + 1) b w))
-    share-added u r bit h s d = over u (n + 1) _ _ (omega arith) (λ i k. ap (λ (f : ℕ → ℕ). f i) (one-more (n - 1) r bit (omega arith) s d))
+module _ (q : ℕ) (w : ℕ → ℕ) where
+  -- Share i has taken the words from o on with the shares before j, which have lost theirs.
+  pub record Paired (i o : ℕ) (b : List ℕ) (j p : ℕ) (a : List ℕ) (own : ℕ) : Type 0 where
+    pub eight : length a ≡ 8
+    pub position : p + (i + 1) ≡ o + j
+    pub gained : own ≡ add q (at b i) (sum q (j - (i + 1)) (after o w))
+    pub lost : (t : ℕ) → i < t → t < j → at a t ≡ sub q (at b t) (w (o + (t - (i + 1))))
+    pub kept : (t : ℕ) → j ≤ t → at a t ≡ at b t
 
-    -- and all steps
-    pub bit-done : (u : List ℕ) (r : ℕ → ℕ) → b 0 < q → r ≡ after (pairs n) w → u ≡ overwrite t 0 (table n (refresh q n r (at t))) → u ≡ overwrite l 0 (table n (convertBit q n b w))
-    unfolding convertBit
-    bit-done u r h s = over u n _ _ (N.le-refl n) (rw s (refresh-cong q n (after (pairs n) w) (at t) (convert q n b w) (λ i k. convert-reduced q n b w h i) listed))
+  -- Before share i, with words from p on: what is wanted of the shares from i on is what these words make of them.
+  pub record Remaining (n : ℕ) (T : ℕ → ℕ) (i p : ℕ) (a : List ℕ) : Type 0 where
+    pub eight : length a ≡ 8
+    pub below : Below q (n - i) (after i (at a))
+    pub wanted : Same (n - i) (after i T) (λ t. add q (at a (i + t)) (zeroSharing q (n - i) (after p w) t))
 
--- ---- step 3
-
--- the first n shares are below q, and what lies behind them is that of l
-pub record Kept (q n : ℕ) (l a : List ℕ) : Type 0 where
-  pub same-length : length a ≡ length l
-  pub below : Below q n (at a)
-  pub behind : (i : ℕ) → n ≤ i → at a i ≡ at l i
-
-module _ {q n : ℕ} {l a : List ℕ} (K : Kept q n l a) where
-  pub kept-set : (i v : ℕ) → i < n → n ≤ length l → v < q → Kept q n l (set a i v)
-  kept-set i v h r m =
-      record {
-        same-length = length-set a i v ∙ K .same-length;
-        below = λ j k. go j k (ℕ-discrete j i);
-        behind = λ j k. getD-set-other a i j v 0 (omega arith) ∙ K .behind j k;
-      }
+  pub remaining-all : (n : ℕ) (T : ℕ → ℕ) (p : ℕ) (a : List ℕ) → length a ≡ 8 → Below q n (at a) → Same n T (refresh q n (after p w) (at a)) → Remaining n T 0 p a
+  remaining-all n T p a e b h =
+      let z : n - 0 ≡ n = omega arith in
+      record { eight = e; below = λ t l. rw (N.zero-add t) (b t (omega arith)); wanted = λ t l. all t (omega arith) ∙ rw (z, N.zero-add t) }
     where
-      go : (j : ℕ) → j < n → Dec (j ≡ i) → at (set a i v) j < q
-      go j k (yes e) = rw (e, getD-set-same a i v 0 (omega (arith, K .same-length))) m
-      go j k (no d) = rw (getD-set-other a i j v 0 d) (K .below j k)
+      all : (t : ℕ) → t < n → T (0 + t) ≡ add q (at a t) (zeroSharing q n (after p w) t)
+      all t l = ap T (N.zero-add t) ∙ h t l ∙ refresh-adds q n (after p w) (at a) (λ s m. reduce-small q (b s m)) t l
 
-  pub kept-again : {b : List ℕ} → Kept q n a b → Kept q n l b
-  kept-again J = record { same-length = J .same-length ∙ K .same-length; below = J .below; behind = λ i h. J .behind i h ∙ K .behind i h }
+  module _ (n : ℕ) (T : ℕ → ℕ) (i o : ℕ) (b : List ℕ) (L : Remaining n T i o b) (h : i < n) where
+    pub own-lt : at b i < q
+    own-lt = rw N.add-zero at (L .below 0 (omega arith))
 
-module _ (q n : ℕ) (w : ℕ → ℕ) (T : ℕ → ℕ) where
-  -- the list, with share i held apart
-  abbrev held : List ℕ → ℕ → ℕ → ℕ → ℕ
-  held a i own j = cond (eqb j i) own (at a j)
+    pub paired-none : Paired i o b (i + 1) o b (at b i)
+    paired-none =
+        let z : i + 1 - (i + 1) ≡ 0 = omega arith in
+        record {
+          eight = L .eight;
+          position = refl;
+          gained = sym (rw z (unfold sum in add-zero q (at b i)) ∙ reduce-small q own-lt);
+          lost = λ t l m. absurd (omega arith);
+          kept = λ t l. refl;
+        }
 
-  -- before share i: with the words from p on, the pairs that remain make T of the list
-  abbrev pub Remaining : ℕ → ℕ → List ℕ → Type 0
-  Remaining i p a = refreshFrom q i (n - i) (after p w) (at a) ≡ T
+    module _ (j p : ℕ) (a : List ℕ) (own : ℕ) (P : Paired i o b j p a own) (l : i < j) where
+      pub paired-next : (v z : ℕ) → j < 8 → z ≡ add q own (w p) → v ≡ sub q (at a j) (w p) → Paired i o b (j + 1) (p + 1) (set a j v) z
+      paired-next v z m e d =
+          let k : p ≡ o + (j - (i + 1)) = omega (arith, P .position) in
+          let f : j + 1 - (i + 1) ≡ suc (j - (i + 1)) = omega arith in
+          record {
+            eight = length-set a j v ∙ P .eight;
+            position = omega (arith, P .position);
+            gained = e ∙ rw (P .gained, f, k, add-assoc) (ap (add q (at b i)) (sym (sum-last q (j - (i + 1)) (after o w))));
+            lost = λ t x y. set-agrees a j v (λ t. sub q (at b t) (w (o + (t - (i + 1))))) (omega (arith, P .eight)) (d ∙ rw (P .kept j (omega arith), k)) t (λ c. P .lost t x (omega arith));
+            kept = λ t x. getD-set-other a j t v 0 (omega arith) ∙ P .kept t (omega arith);
+          }
 
-  -- within its pairs, before the one with share m
-  abbrev pub Paired : ℕ → ℕ → ℕ → List ℕ → ℕ → Type 0
-  Paired i m p a own = refreshFrom q (suc i) (n - suc i) (after (p + (n - m)) w) (refreshShare q i m (n - m) (after p w) (held a i own)) ≡ T
+      pub other-lt : j < n → at a j < q
+      other-lt m =
+          let e : i + (j - i) ≡ j = omega arith in
+          rw (P .kept j (omega arith)) (rw e at (L .below (j - i) (omega arith)))
 
-  module _ (i : ℕ) (p : ℕ) (a : List ℕ) where
-    pub paired-none : i < n → Remaining i p a → Paired i (i + 1) p a (at a i)
-    unfolding refreshFrom
-    paired-none h R =
-        let c : n - i ≡ suc (n - suc i) = omega arith in
-        let e : held a i (at a i) ≡ at a = fun-ext (λ j. own j (ℕ-discrete j i)) in
-        rw (add-one i, e, ← after-after p (n - suc i) w) (rw c at R)
-      where
-        own : (j : ℕ) → Dec (j ≡ i) → held a i (at a i) j ≡ at a j
-        own j (yes e) = rw (e, eq-eqb i i refl)
-        own j (no d) = rw (ne-eqb j i d)
+      pub paired-lt : own < q
+      paired-lt = rw (P .gained) (add-lt q (omega (arith, own-lt)) (at b i) (sum q (j - (i + 1)) (after o w)))
 
-    module _ (m own : ℕ) (P : Paired i m p a own) where
-      pub paired-next : (v z : ℕ) → i < m → m < n → m < length a → z ≡ add q own (w p) → v ≡ sub q (at a m) (w p) → Paired i (m + 1) (p + 1) (set a m v) z
-      unfolding refreshShare transfer
-      paired-next v z h l k e d =
-          let c : n - m ≡ suc (n - suc m) = omega arith in
-          let x : p + 1 + (n - suc m) ≡ p + suc (n - suc m) = omega arith in
-          let f : held (set a m v) i z ≡ transfer q i m (w (p + 0)) (held a i own) = fun-ext (λ j. moved j (ℕ-discrete j i) (ℕ-discrete j m)) in
-          let g : after (p + 1) w ≡ (λ j. after p w (suc j)) = fun-ext (λ j. ap w (omega arith)) in
-          rw (f, g, add-one m, x) (rw c at P)
-        where
-          moved : (j : ℕ) → Dec (j ≡ i) → Dec (j ≡ m) → held (set a m v) i z j ≡ transfer q i m (w (p + 0)) (held a i own) j
-          moved j (yes x) y = rw (x, eq-eqb i i refl, N.add-zero p) e
-          moved j (no x) (yes y) = rw (ne-eqb j i x) (rw (y, eq-eqb m m refl, getD-set-same a m v 0 k, N.add-zero p) d)
-          moved j (no x) (no y) = rw (ne-eqb j i x, ne-eqb j m y) (getD-set-other a m j v 0 y)
+      module _ (y : n ≤ j) (x : j ≤ n) where
+        abbrev whole : n - i ≡ suc (n - (i + 1))
+        whole = omega arith
 
-      pub remaining-next : n ≡ m → i < length a → Remaining (i + 1) p (set a i own)
-      unfolding refreshShare
-      remaining-next h l =
-          let c : n - m ≡ 0 = omega arith in
-          let f : at (set a i own) ≡ held a i own = fun-ext (λ j. back j (ℕ-discrete j i)) in
-          rw (f, add-one i) (rw (c, N.add-zero p) at P)
-        where
-          back : (j : ℕ) → Dec (j ≡ i) → at (set a i own) j ≡ held a i own j
-          back j (yes e) = rw (e, getD-set-same a i own 0 l, eq-eqb i i refl)
-          back j (no d) = rw (getD-set-other a i j own 0 d, ne-eqb j i d)
+        pub share-done : T i ≡ own
+        unfolding zeroSharing
+        share-done =
+            let e : j - (i + 1) ≡ n - (i + 1) = omega arith in
+            ap T (sym (N.add-zero i)) ∙ L .wanted 0 (omega arith) ∙ rw (whole, N.add-zero i) (sym (P .gained ∙ rw e))
 
-    pub remaining-all : i + 1 ≡ n → Remaining i p a → at a ≡ T
-    unfolding refreshFrom refreshShare
-    remaining-all h R =
-        let c : n - i ≡ 1 = omega arith in
-        rw c at R
+        pub remaining-next : Remaining n T (i + 1) p a
+        unfolding zeroSharing
+        remaining-next =
+            record {
+              eight = P .eight;
+              below = λ t m. rw (loss t m) (add-lt q (omega (arith, own-lt)) _ _);
+              wanted = λ t m. next t m;
+            }
+          where
+            regroup : (x y z : ℕ) → add q x (add q y z) ≡ add q (add q x z) y
+            regroup x y z = ap (add q x) (add-comm q y z) ∙ sym (add-assoc q x z y)
+
+            loss : (t : ℕ) → t < n - (i + 1) → at a (i + 1 + t) ≡ sub q (at b (i + 1 + t)) (w (o + t))
+            loss t m =
+                let e : i + 1 + t - (i + 1) ≡ t = omega arith in
+                P .lost (i + 1 + t) (omega arith) (omega arith) ∙ rw e
+
+            next : (t : ℕ) → t < n - (i + 1) → T (i + 1 + t) ≡ add q (at a (i + 1 + t)) (zeroSharing q (n - (i + 1)) (after p w) t)
+            next t m =
+                let e : i + 1 + t ≡ i + suc t = omega arith in
+                let k : p ≡ o + (n - (i + 1)) = omega (arith, P .position) in
+                rw (loss t m, e, k) (L .wanted (suc t) (omega arith) ∙ rw (whole, after-after o (n - (i + 1)) w) (regroup (at b (i + suc t)) _ (neg q (w (o + t)))))
 
 -- ---- one bit alone
 
--- its shares are their own lowest bits
-pub bit-alone : (n q : ℕ) (bits words : List ℕ) (start : ℕ) → 2 < q → 1 ≤ n → Below 2 n (at bits) → table n (convertBit q n (bitsAt (at bits) 0) (after start (at words))) ≡ bitShares n q bits (drop start words)
+-- Its shares, which stand in front of the array, are their own lowest bits.
+pub bit-alone : (n q : ℕ) (bits words : List ℕ) (start : ℕ) (array lowest : List ℕ) → 2 < q → 1 ≤ n → n ≤ 8 → Below 2 n (at bits) → Same n (at array) (at bits) → Holds 8 (bitsAt (at array) 0) lowest
+    → Below 2 n (at lowest) × (table n (convertBit q n (at lowest) (after start (at words))) ≡ bitShares n q bits (drop start words))
 unfolding bitShares
-bit-alone n q bits words start large h below =
-    table-same n _ _ (convertBit-local q n _ (at bits) _ _ (omega (arith, lowest 0 h, below 0 h)) (omega (arith, below 0 h)) lowest (λ j l. sym (getD-drop start words j 0)))
+bit-alone n q bits words start array lowest large h m below same L =
+    (small, table-same n _ _ (convertBit-local q n (at lowest) (at bits) _ _ (omega (arith, small 0 h)) (omega (arith, below 0 h)) lowest-same (λ j l. sym (getD-drop start words j 0))))
   where
-    lowest : Same n (bitsAt (at bits) 0) (at bits)
-    lowest i l = bit-lowest (at bits i) ∙ omega (arith, below i l)
+    lowest-same : Same n (at lowest) (at bits)
+    lowest-same i l = L .same i (omega arith) ∙ rw (same i l) (bit-lowest (at bits i) ∙ omega (arith, below i l))
+
+    small : Below 2 n (at lowest)
+    small i l = rw (lowest-same i l) (below i l)

@@ -9,7 +9,7 @@ use Rattle.buffers.specs.Positions.{at, Below}
 use Rattle.checks.specs.Checks.{atLeast, wordChecks}
 use Rattle.checks.specs.Laws.{Hold, hold-front, hold-rest, hold-both, within-true, none-each-below}
 use Rattle.conversion.specs.Conversion.{bitWords, sharingChecks, bufferChecks, bitChecks}
-use Rattle.conversion.specs.Drawn.{Drawn, words-drawn, drawn-words}
+use Rattle.conversion.specs.Arrays.{Drawn, words-drawn, drawn-words}
 
 -- n shares of a bit
 pub record SharedBit (n q : ℕ) (bits : List ℕ) : Type 0 where

@@ -1,5 +1,5 @@
 pub mod Conversion
-pub mod Drawn
+pub mod Arrays
 pub mod Secrecy
 pub mod ZeroSharing
 pub mod Laws

@@ -11,7 +11,7 @@ use Rattle.secrecy.specs.Secrecy.{Full, between, Indistinguishable, AgreeBut}
 use Rattle.secrecy.specs.Laws.{weaken, between-taken, agree-front}
 use Rattle.secrecy.specs.Translation.{indistinguishable}
 use Rattle.conversion.specs.Conversion.{convertBit, bitWords, bitShares, sharingChecks, converted}
-use Rattle.conversion.specs.Drawn.{between-drawn}
+use Rattle.conversion.specs.Arrays.{between-drawn}
 use Rattle.conversion.specs.Accepted.{SharedBit, first-lt, shared-bit, call-holds}
 use Rattle.conversion.specs.Calls.{bitShares-at, call-converts}
 use Rattle.conversion.specs.Translation.{bitForm, convertBit-form, refreshWords, bit-equivariant}

@@ -11,12 +11,11 @@ ghost use lib.ListN.{length};
 ghost use Rattle.residue.specs.Residue.{sub};
 ghost use Rattle.buffers.specs.Overwrite.{overwrite};
 ghost use Rattle.buffers.specs.Positions.{at, table, after, Below};
-ghost use Rattle.checks.specs.Width.{bit};
 ghost use Rattle.checks.specs.Checks.{checked};
 ghost use Rattle.checks.specs.Answers.{checkedReading, outcome};
 ghost use Rattle.conversion.specs.Conversion.{pairs, lessTwice, xorShare, bitsAt, convert, refresh, convertBit, bitWords, bitChecks, converted};
 ghost use Rattle.conversion.specs.Secrecy.{BitSecrecy};
-ghost use Rattle.conversion.specs.Drawn.{Drawn, Modulus};
+ghost use Rattle.conversion.specs.Arrays.{Holds, Drawn, Modulus};
 
 // B - 2Bb modulo q for B = a - r and a bit b: a - r, or r - a where b is 1.
 fn less_twice(a: Wide, r: Wide, b: Wide, q: Word) -> Word
@@ -26,60 +25,99 @@ fn less_twice(a: Wide, r: Wide, b: Wide, q: Word) -> Word
     residue::narrow(residue::cswap_sub(a, r, b, residue::widen(q)), q)
 }
 
-// Step 2: the list for j shares of the bit, which stands in front, becomes that for j + 1, with the j words at `start` and the next share of
-// the bit.
-fn xor_share(list: &mut [Word], j: usize, bit: Word, q: Word, words: &[Word], start: usize)
-    requires { ⌜ (bit < 2) × Modulus q × (j < length (now list)) × Below q j (at (now list)) × Drawn q start j (now words) ⌝ }
-    ensures { λ _. ⌜ now (list .exit) ≡ overwrite (now (list .entry)) 0 (table (j + 1) (xorShare q j (at (now (list .entry))) (after start (at (now (words .entry)))) bit)) ⌝ }
+// Step 2: the list for j + 1 shares of the bit, from the list for j, the j words at `start` and the next share of the bit.
+fn xor_share(a: [Word; 8], j: usize, bit: Word, q: Word, words: &[Word], start: usize) -> [Word; 8]
+    requires { ⌜ (j < 8) × (bit < 2) × Modulus q × Below q j (at a) × Drawn q start j (now words) ⌝ }
+    ensures { λ r. ⌜ Holds (j + 1) (xorShare q j (at a) (after start (at (now (words .entry)))) bit) r ⌝ }
 {
     let modulus = residue::widen(q);
     let b = residue::widen(bit);
+    let mut c: [Word; 8] = [0; 8];
     let mut sum: Wide = 0;
-    for i in 0..j {
-        let r = residue::widen(words[start + i]);
-        list[i] = less_twice(residue::widen(list[i]), r, b, q);
-        sum = residue::add(sum, r, modulus);
+    // Eight turns whatever j is, so that the loop can be unrolled.
+    for i in 0..8 {
+        if i < j {
+            let r = residue::widen(words[start + i]);
+            c[i] = less_twice(residue::widen(a[i]), r, b, q);
+            sum = residue::add(sum, r, modulus);
+        } else if i == j {
+            c[i] = less_twice(sum, 0, b, q);
+        }
     }
-    list[j] = less_twice(sum, 0, b, q);
-    list[0] = residue::narrow(residue::add(residue::widen(list[0]), b, modulus), q);
+    c[0] = residue::narrow(residue::add(residue::widen(c[0]), b, modulus), q);
+    c
 }
 
-// Bit t of a share.
-fn bit_of(share: u16, t: usize) -> Word
+// Bit t of each share.
+pub fn bits_at(shares: &[u16; 8], t: usize) -> [Word; 8]
     requires { ⌜ t < 16 ⌝ }
-    ensures { λ r. ⌜ r ≡ bit share t ⌝ }
+    ensures { λ r. ⌜ Holds 8 (bitsAt (at (now (shares .entry))) t) r ⌝ }
 {
-    residue::from_u16((share >> t) & 1)
+    let mut bits: [Word; 8] = [0; 8];
+    for i in 0..8 {
+        bits[i] = residue::from_u16((shares[i] >> t) & 1);
+    }
+    bits
 }
 
-// Steps 1 and 2: the list for the n shares of bit t, with the n(n - 1)/2 words at `start`. It comes to stand in front. Answers the position
-// after the last word. There are two shares at least, and the second is added outside the loop, which is faster where there are few.
-fn convert(
-    shares: &[u16],
-    t: usize,
+// Step 1: the list for one share.
+fn one_share(bit: Word) -> [Word; 8]
+    ensures { λ r. ⌜ Holds 1 (λ i. bit) r ⌝ }
+{
+    let mut one: [Word; 8] = [0; 8];
+    one[0] = bit;
+    one
+}
+
+// A list that steps 1 and 2 made, and the position after their last word.
+struct Unrefreshed {
+    list: [Word; 8],
+    next: usize,
+}
+
+// Steps 1 and 2: the list for the first j shares of a bit, with the j(j - 1)/2 words at `start`.
+fn convert(bits: &[Word; 8], j: usize, q: Word, words: &[Word], start: usize) -> Unrefreshed
+    requires { ⌜ (1 ≤ j) × (j ≤ 8) × Below 2 j (at (now bits)) × Modulus q × Drawn q start (pairs j) (now words) ⌝ }
+    ensures { λ r. ⌜ Holds j (convert q j (at (now (bits .entry))) (after start (at (now (words .entry))))) (r .list) × (r .next ≡ start + pairs j) ⌝ }
+{
+    if j == 1 {
+        let list = one_share(bits[0]);
+        return Unrefreshed {
+            list: list,
+            next: start,
+        };
+    }
+    add_share(bits, j - 1, q, words, start)
+}
+
+// The list for j + 1 shares: the first j are converted first, and step 2 takes its words from where they end.
+// `&words[..]`: docs/DECISIONS.md, 'A slice is handed on by its parts'.
+fn add_share(bits: &[Word; 8], j: usize, q: Word, words: &[Word], start: usize) -> Unrefreshed
+    requires { ⌜ (1 ≤ j) × (j < 8) × Below 2 (j + 1) (at (now bits)) × Modulus q × Drawn q start (pairs (j + 1)) (now words) ⌝ }
+    ensures { λ r. ⌜ Holds (j + 1) (convert q (j + 1) (at (now (bits .entry))) (after start (at (now (words .entry))))) (r .list) × (r .next ≡ start + pairs (j + 1)) ⌝ }
+{
+    let bit = bits[j];
+    let first = convert(bits, j, q, &words[..], start);
+    let a = first.list;
+    let list = xor_share(a, j, bit, q, words, first.next);
+    Unrefreshed {
+        list: list,
+        next: first.next + j,
+    }
+}
+
+// Step 3: every pair of the n shares of the list, which is used up, takes a word from `start` on. The shares come to stand in front of the row.
+// The last has no pair of its own. Answers the position after the last word.
+fn refresh(
+    list: &mut [Word; 8],
     n: usize,
     q: Word,
     words: &[Word],
     start: usize,
-    list: &mut [Word],
+    row: &mut [Word],
 ) -> usize
-    requires { ⌜ (t < 16) × (2 ≤ n) × Modulus q × (n ≤ length (now shares)) × Drawn q start (pairs n) (now words) × (n ≤ length (now list)) ⌝ }
-    ensures { λ r. ⌜ (now (list .exit) ≡ overwrite (now (list .entry)) 0 (table n (convert q n (bitsAt (at (now (shares .entry))) t) (after start (at (now (words .entry))))))) × (r ≡ start + pairs n) ⌝ }
-{
-    list[0] = bit_of(shares[0], t);
-    xor_share(list, 1, bit_of(shares[1], t), q, words, start);
-    let mut p = start + 1;
-    for j in 2..n {
-        xor_share(list, j, bit_of(shares[j], t), q, words, p);
-        p += j;
-    }
-    p
-}
-
-// Step 3: every pair of the n shares in front takes a word from `start` on. Answers the position after the last word.
-fn refresh(list: &mut [Word], n: usize, q: Word, words: &[Word], start: usize) -> usize
-    requires { ⌜ (1 ≤ n) × Modulus q × (n ≤ length (now list)) × Below q n (at (now list)) × Drawn q start (pairs n) (now words) ⌝ }
-    ensures { λ r. ⌜ (now (list .exit) ≡ overwrite (now (list .entry)) 0 (table n (refresh q n (after start (at (now (words .entry)))) (at (now (list .entry)))))) × (r ≡ start + pairs n) ⌝ }
+    requires { ⌜ (1 ≤ n) × (n ≤ 8) × Modulus q × (length (now list) ≡ 8) × Below q n (at (now list)) × Drawn q start (pairs n) (now words) × (n ≤ length (now row)) ⌝ }
+    ensures { λ r. ⌜ (now (row .exit) ≡ overwrite (now (row .entry)) 0 (table n (refresh q n (after start (at (now (words .entry)))) (at (now (list .entry)))))) × (r ≡ start + pairs n) ⌝ }
 {
     let modulus = residue::widen(q);
     let mut p = start;
@@ -91,27 +129,28 @@ fn refresh(list: &mut [Word], n: usize, q: Word, words: &[Word], start: usize) -
             list[m] = residue::narrow(residue::sub(residue::widen(list[m]), r, modulus), q);
             p += 1;
         }
-        list[i] = residue::narrow(own, q);
+        row[i] = residue::narrow(own, q);
     }
+    row[n - 1] = list[n - 1];
     p
 }
 
-// The n shares of bit t, by steps 1, 2 and 3 with the n(n - 1) words at `start`. They come to stand in front of the row. Answers the position
-// after the last word.
+// The n shares of a bit, by steps 1, 2 and 3 with the n(n - 1) words at `start`. They come to stand in front of the row. Answers the position
+// after the last word. There are two shares at least, so the last is added to those before it.
 pub fn convert_at(
-    shares: &[u16],
-    t: usize,
+    bits: &[Word; 8],
     n: usize,
     q: Word,
     words: &[Word],
     start: usize,
     row: &mut [Word],
 ) -> usize
-    requires { ⌜ (t < 16) × (2 ≤ n) × Modulus q × (n ≤ length (now shares)) × Drawn q start (bitWords n) (now words) × (n ≤ length (now row)) ⌝ }
-    ensures { λ r. ⌜ (now (row .exit) ≡ overwrite (now (row .entry)) 0 (table n (convertBit q n (bitsAt (at (now (shares .entry))) t) (after start (at (now (words .entry))))))) × (r ≡ start + bitWords n) ⌝ }
+    requires { ⌜ (2 ≤ n) × (n ≤ 8) × Below 2 n (at (now bits)) × Modulus q × Drawn q start (bitWords n) (now words) × (n ≤ length (now row)) ⌝ }
+    ensures { λ r. ⌜ (now (row .exit) ≡ overwrite (now (row .entry)) 0 (table n (convertBit q n (at (now (bits .entry))) (after start (at (now (words .entry))))))) × (r ≡ start + bitWords n) ⌝ }
 {
-    let next = convert(shares, t, n, q, words, start, row);
-    refresh(row, n, q, words, next)
+    let mut first = add_share(bits, n - 1, q, &words[..], start);
+    let next = first.next;
+    refresh(&mut first.list, n, q, words, next, row)
 }
 
 fn check_bit(n: usize, q: Word, bits: &[u16], words: &[Word], start: usize, room: usize) -> Checked
@@ -155,5 +194,8 @@ pub fn convert_bit(
     if let Checked::Failed(r) = check_bit(n, q, bits, words, start, out.len()) {
         return Answer::Refused(r);
     }
-    Answer::Done(convert_at(bits, 0, n, q, words, start, out))
+    let mut array = [0u16; 8];
+    buffers::copy_eight(&mut array, bits);
+    let lowest = bits_at(&array, 0);
+    Answer::Done(convert_at(&lowest, n, q, words, start, out))
 }

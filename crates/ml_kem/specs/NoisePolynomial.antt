@@ -11,7 +11,7 @@ use Rattle.checks.specs.Checks.{Outcome, accepted}
 use Rattle.checks.specs.Laws.{Hold, true-within, accepts}
 use Rattle.masking.specs.Sharing.{xorAll, openedResidue}
 use Rattle.binomial.specs.Signed.{differenceOfWeights}
-use Rattle.conversion.specs.Drawn.{full-drawn}
+use Rattle.conversion.specs.Arrays.{full-drawn}
 use Rattle.secrecy.specs.Secrecy.{Full, Indistinguishable}
 use Rattle.sampler.specs.Sampler.{Buffers}
 use Rattle.sampler.specs.Secrecy.{Room}

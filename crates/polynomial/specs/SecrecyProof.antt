@@ -2,7 +2,7 @@
 use Prim.Native.Nat.{ℕ, _*_}
 use Rattle.buffers.specs.Positions.{block}
 use Rattle.checks.specs.Laws.{accepted-holds}
-use Rattle.conversion.specs.Drawn.{full-drawn}
+use Rattle.conversion.specs.Arrays.{full-drawn}
 use Rattle.secrecy.specs.Secrecy.{AgreeBut}
 use Rattle.secrecy.specs.Laws.{weaken}
 use Rattle.secrecy.specs.Blocks.{blocks}

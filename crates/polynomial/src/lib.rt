@@ -10,7 +10,7 @@ ghost use Rattle.buffers.specs.Overwrite.{overwrite};
 ghost use Rattle.buffers.specs.Positions.{at, Same};
 ghost use Rattle.checks.specs.Checks.{checked};
 ghost use Rattle.checks.specs.Answers.{checkedReading, outcome};
-ghost use Rattle.conversion.specs.Drawn.{Drawn, Modulus};
+ghost use Rattle.conversion.specs.Arrays.{Drawn, Modulus};
 ghost use Rattle.sampler.specs.Sampler.{sampleWords, both};
 ghost use Rattle.polynomial.specs.Polynomial.{coefficientShares, polynomialShares, polynomialWords, stringsChecks, polynomialChecks, sampledPolynomial};
 ghost use Rattle.polynomial.specs.Secrecy.{PolynomialSecrecy};
@@ -35,17 +35,11 @@ fn write_coefficient(
 {
     let i = t * n;
     let j = i + n;
-    sampler::write_sample(
-        n,
-        k,
-        q,
-        &x[i..j],
-        &y[i..j],
-        &words[..],
-        start,
-        &mut out[i..j],
-        work,
-    )
+    let mut a = [0u16; 8];
+    let mut b = [0u16; 8];
+    buffers::copy_eight(&mut a, &x[i..j]);
+    buffers::copy_eight(&mut b, &y[i..j]);
+    sampler::write_sample(n, k, q, &a, &b, &words[..], start, &mut out[i..j], work)
 }
 
 // The samples of all coefficients, with the words from the front of the list. Answers the position after the last word.

@@ -100,6 +100,12 @@ module _ (q : ℕ) where
           let e : b ≡ q = omega arith in
           rw (e, mod-self q, add-mod-mod) (ap (λ (z : ℕ). z % q) (omega arith) ∙ add-mod-right a q ∙ ap (λ (z : ℕ). z % q) (omega arith))
 
+  -- q less b, taken off
+  pub sub-complement : (a b : ℕ) → b ≤ q → sub q a (q - b) ≡ add q a b
+  sub-complement a b h =
+      let e : q - (q - b) ≡ b = omega arith in
+      sub-plus a (q - b) (omega arith) ∙ ap (λ (c : ℕ). reduce q (a + c)) e ∙ reduce-plus a b
+
   pub sub-reduce : (a b : ℕ) → sub q (reduce q a) (reduce q b) ≡ sub q a b
   sub-reduce a b = rw (neg-reduce, add-reduce-left)
 

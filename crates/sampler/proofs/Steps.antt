@@ -4,20 +4,25 @@ use mathlib.Core.Bool.{Bool, true, false}
 use mathlib.Core.List.{List}
 use Prim.Native.Nat.{ℕ, _+_, _*_, _≤_, _<_}
 use native.Mathlib.Nat.{le-of-eq}
+use native.Mathlib.Omega.{arith}
 use lib.ListN.{length, drop}
 use Rattle.buffers.specs.Overwrite.{overwrite}
 use Rattle.buffers.specs.Laws.{front-over}
 use Rattle.buffers.specs.Positions.{at, table, after, Same, Below}
 use Rattle.buffers.specs.PositionLaws.{after-at, drop-after, length-table, table-same, front-at, front-length, front-values}
+use Rattle.checks.specs.Width.{bit-lt}
 use Rattle.conversion.specs.Conversion.{convertBit, bitsAt, bitWords}
+use Rattle.conversion.specs.Laws.{convertBit-local}
 use Rattle.sampler.specs.Sampler.{row, stringShare, sampleShare, sampleShares}
 use Rattle.sampler.specs.Totals.{signedSum, signed-lt, signed-none, signed-next, signed-share}
 
--- a bit's row, whose words begin at p
-pub row-from : (n q t start p : ℕ) (x v : ℕ → ℕ) (before r : List ℕ) → p ≡ start + t * bitWords n → r ≡ overwrite before 0 (table n (convertBit q n (bitsAt x t) (after p v))) → Same n (at r) (row q n x (after start v) t)
+-- a bit's row, of the bits of a turn and of words that begin at p
+pub row-from : (n q t start p : ℕ) (x b v : ℕ → ℕ) (before r : List ℕ) → 2 < q → 1 ≤ n → Same n b (bitsAt x t) → p ≡ start + t * bitWords n → r ≡ overwrite before 0 (table n (convertBit q n b (after p v))) → Same n (at r) (row q n x (after start v) t)
 unfolding row
-row-from n q t start p x v before r e d i h =
-    ap (λ (l : List ℕ). at l i) d ∙ front-at before n _ i h ∙ ap (λ (w : ℕ → ℕ). convertBit q n (bitsAt x t) w i) (after-at start (t * bitWords n) p v e)
+row-from n q t start p x b v before r large one same e d i h =
+    let l = bit-lt (x 0) t in
+    ap (λ (l : List ℕ). at l i) d ∙ front-at before n _ i h
+    ∙ convertBit-local q n b (bitsAt x t) (after p v) (after (t * bitWords n) (after start v)) (rw (same 0 one) (omega arith)) (omega arith) same (λ j k. ap (λ (w : ℕ → ℕ). w j) (after-at start (t * bitWords n) p v e)) i h
 
 -- a list written over another that was written over l, each with n values in front
 pub again : (n : ℕ) (f g : ℕ → ℕ) (l m u : List ℕ) → m ≡ overwrite l 0 (table n f) → u ≡ overwrite m 0 (table n g) → u ≡ overwrite l 0 (table n g)

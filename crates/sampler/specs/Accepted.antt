@@ -11,7 +11,7 @@ use Rattle.checks.specs.Checks.{Check, wordChecks, roomChecks, bufferChecks}
 use Rattle.checks.specs.Laws.{Hold, hold-front, hold-rest, hold-both, within-true, none-each-below}
 use Rattle.conversion.specs.Conversion.{bitWords}
 use Rattle.conversion.specs.Laws.{bitWords-some}
-use Rattle.conversion.specs.Drawn.{Drawn, words-drawn, drawn-words}
+use Rattle.conversion.specs.Arrays.{Drawn, words-drawn, drawn-words}
 use Rattle.sampler.specs.Sampler.{sampleWords, pairChecks, sampleChecks}
 use Rattle.sampler.specs.Secrecy.{Room}
 

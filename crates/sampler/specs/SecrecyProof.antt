@@ -11,7 +11,7 @@ use Rattle.secrecy.specs.Secrecy.{Full, between, Indistinguishable, AgreeBut}
 use Rattle.secrecy.specs.Laws.{weaken, between-taken, agree-front}
 use Rattle.secrecy.specs.Translation.{indistinguishable}
 use Rattle.conversion.specs.Conversion.{bitWords}
-use Rattle.conversion.specs.Drawn.{between-drawn}
+use Rattle.conversion.specs.Arrays.{between-drawn}
 use Rattle.conversion.specs.Translation.{refreshWords}
 use Rattle.sampler.specs.Sampler.{sampleShare, sampleShares, sampleWords, pairChecks, sampled}
 use Rattle.sampler.specs.Secrecy.{Samples, Room, Secrecy}

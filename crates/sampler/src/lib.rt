@@ -11,12 +11,12 @@ ghost use Rattle.buffers.specs.Positions.{at, table, after, Same, Below};
 ghost use Rattle.checks.specs.Checks.{checked};
 ghost use Rattle.checks.specs.Answers.{checkedReading, outcome};
 ghost use Rattle.conversion.specs.Conversion.{bitWords};
-ghost use Rattle.conversion.specs.Drawn.{Drawn, Modulus};
+ghost use Rattle.conversion.specs.Arrays.{Drawn, Modulus};
 ghost use Rattle.sampler.specs.Sampler.{stringShare, sampleWords, sampleShares, pairChecks, sampleChecks, both, sampled};
 ghost use Rattle.sampler.specs.Totals.{signedSum};
 ghost use Rattle.sampler.specs.Secrecy.{Secrecy};
 
-// A bit's n shares added to the totals or, for a string that counts as negative, taken off.
+// A bit's n shares added to the totals or, for a string that counts as negative, taken off. To add a share, q less it is taken off.
 fn add_row(row: &[Word; 8], n: usize, q: Word, negative: bool, work: &mut [Word])
     requires { ⌜ (n ≤ 8) × Modulus q × Below q n (at (now row)) × (n ≤ length (now work)) × Below q n (at (now work)) ⌝ }
     ensures { λ _. ⌜ now (work .exit) ≡ overwrite (now (work .entry)) 0 (table n (λ i. signedSum q negative (at (now (work .entry)) i) (at (now (row .entry)) i))) ⌝ }
@@ -25,20 +25,15 @@ fn add_row(row: &[Word; 8], n: usize, q: Word, negative: bool, work: &mut [Word]
     for i in 0..n {
         let total = residue::widen(work[i]);
         let share = residue::widen(row[i]);
-        let sum = if negative {
-            residue::sub(total, share, modulus)
-        } else {
-            residue::add(total, share, modulus)
-        };
-        work[i] = residue::narrow(sum, q);
+        let other = if negative { share } else { modulus - share };
+        work[i] = residue::narrow(residue::sub(total, other, modulus), q);
     }
 }
 
 // The rows of a string's k bits, added to the totals in front of the work area or taken off. Each bit takes the next n(n - 1) words from `start`
-// on. Answers the position after the last word.
-// `&shares[..]`, `&words[..]`: docs/DECISIONS.md, 'A slice is handed on by its parts'.
+// on. The string's shares stand in front of the array. Answers the position after the last word.
 fn add_string(
-    shares: &[u16],
+    shares: &[u16; 8],
     n: usize,
     k: usize,
     q: Word,
@@ -47,13 +42,14 @@ fn add_string(
     negative: bool,
     work: &mut [Word],
 ) -> usize
-    requires { ⌜ (2 ≤ n) × (n ≤ 8) × (k ≤ 16) × Modulus q × (n ≤ length (now shares)) × Drawn q start (k * bitWords n) (now words) × (n ≤ length (now work)) × Below q n (at (now work)) ⌝ }
+    requires { ⌜ (2 ≤ n) × (n ≤ 8) × (k ≤ 16) × Modulus q × Drawn q start (k * bitWords n) (now words) × (n ≤ length (now work)) × Below q n (at (now work)) ⌝ }
     ensures { λ r. ⌜ (now (work .exit) ≡ overwrite (now (work .entry)) 0 (table n (λ i. signedSum q negative (at (now (work .entry)) i) (stringShare q n k (at (now (shares .entry))) (after start (at (now (words .entry)))) i)))) × (r ≡ start + k * bitWords n) ⌝ }
 {
     let mut p = start;
     let mut row: [Word; 8] = [0; 8];
     for bit in 0..k {
-        p = conversion::convert_at(&shares[..], bit, n, q, &words[..], p, &mut row);
+        let bits = conversion::bits_at(shares, bit);
+        p = conversion::convert_at(&bits, n, q, words, p, &mut row);
         add_row(&row, n, q, negative, work);
     }
     p
@@ -72,18 +68,19 @@ fn move_totals(work: &mut [Word], n: usize, out: &mut [Word])
 
 // The sample of the strings whose n shares stand in front of x and y, with the words from `start` on. The totals are made in front of the work
 // area, which has n zeros there before and after. Answers the position after the last word.
+// `&words[..]`: docs/DECISIONS.md, 'A slice is handed on by its parts'.
 pub fn write_sample(
     n: usize,
     k: usize,
     q: Word,
-    x: &[u16],
-    y: &[u16],
+    x: &[u16; 8],
+    y: &[u16; 8],
     words: &[Word],
     start: usize,
     out: &mut [Word],
     work: &mut [Word],
 ) -> usize
-    requires { ⌜ (2 ≤ n) × (n ≤ 8) × (k ≤ 16) × Modulus q × (n ≤ length (now x)) × (n ≤ length (now y)) × Drawn q start (sampleWords n k) (now words) × (n ≤ length (now out)) × (n ≤ length (now work)) × Same n (at (now work)) (λ i. 0) ⌝ }
+    requires { ⌜ (2 ≤ n) × (n ≤ 8) × (k ≤ 16) × Modulus q × Drawn q start (sampleWords n k) (now words) × (n ≤ length (now out)) × (n ≤ length (now work)) × Same n (at (now work)) (λ i. 0) ⌝ }
     ensures { λ r. ⌜ (now (out .exit) ≡ overwrite (now (out .entry)) 0 (sampleShares n k q (now (x .entry)) (now (y .entry)) (drop start (now (words .entry))))) × (now (work .exit) ≡ now (work .entry)) × (r ≡ start + sampleWords n k) ⌝ }
 {
     let half = add_string(x, n, k, q, &words[..], start, false, work);
@@ -144,6 +141,10 @@ pub fn sample(
     if let Checked::Failed(r) = check_sample(n, k, q, x, y, words, start, out.len(), work.len()) {
         return Answer::Refused(r);
     }
+    let mut a = [0u16; 8];
+    let mut b = [0u16; 8];
+    buffers::copy_eight(&mut a, x);
+    buffers::copy_eight(&mut b, y);
     buffers::zero(work, n);
-    Answer::Done(write_sample(n, k, q, x, y, &words[..], start, out, work))
+    Answer::Done(write_sample(n, k, q, &a, &b, &words[..], start, out, work))
 }

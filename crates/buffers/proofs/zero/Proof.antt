@@ -1,32 +1,15 @@
 -- After i turns the first i zeros stand in front, or all where there are fewer.
 use mathlib.Core.Path.{_≡_, refl, sym, ap, _∙_}
-use mathlib.Core.List.{List}
 use mathlib.Core.Logic.{⊎-elim}
-use Prim.Native.Nat.{ℕ, _+_, _-_, _≤_, _<_}
-use native.Mathlib.Numerals.{add-one}
+use Prim.Native.Nat.{ℕ, _-_, _≤_}
 use native.Mathlib.Omega.{arith}
-use lib.ListN.{length, set, take, replicate, length-set, length-replicate, getD-replicate}
-use lib.Seq.{take-all, take-suc, length-take-le}
+use lib.ListN.{length, take, replicate, length-set, length-replicate, getD-replicate}
+use lib.Seq.{take-all}
 use borrow.Author.Needs.{needs}
 use Rattle.buffers.specs.Overwrite.{overwrite}
-use Rattle.buffers.specs.Laws.{overwrite-none, front-snoc}
+use Rattle.buffers.specs.Laws.{overwrite-none, taken-next, taken-all}
 use Rattle.buffers.proofs.zero.Statement.{statement}
 use Rattle.buffers.proofs.zero.Tie as tie
-
-module _ (l : List ℕ) (count i : ℕ) where
-  abbrev zeros : List ℕ
-  zeros = replicate count 0
-
-  one-more : (t : List ℕ) → t ≡ overwrite l 0 (take i zeros) → i < count → i < length l → set t i 0 ≡ overwrite l 0 (take (i + 1) zeros)
-  one-more t e h m =
-      let c = length-replicate {A = ℕ} count 0 in
-      let n = length-take-le i zeros (omega arith) in
-      rw (e, add-one i, take-suc zeros i 0 (omega arith), getD-replicate {A = ℕ} count i 0 0 h, ← front-snoc l (take i zeros) 0 (omega arith), n)
-
-  no-more : count ≤ i → overwrite l 0 (take i zeros) ≡ overwrite l 0 (take (i + 1) zeros)
-  no-more h =
-      let c = length-replicate {A = ℕ} count 0 in
-      ap (overwrite l 0) (take-all i zeros (omega arith) ∙ sym (take-all (i + 1) zeros (omega arith)))
 
 abbrev Inv-loop : tie.InvT-loop
 Inv-loop to₀ count i₀ to i = (i ≤ 8) × (length to ≡ length to₀) × (to ≡ overwrite to₀ 0 (take i (replicate count 0)))
@@ -52,12 +35,14 @@ loop-less c = search needs
 loop-again : tie.Need-loop-again Inv-loop μ-loop
 loop-again c =
     let s = c .before .before .before .args in
-    let l = c .before .before .loop in (
+    let l = c .before .before .loop in
+    let zeros = replicate {A = ℕ} (s .count) 0 in
+    let m = length-replicate {A = ℕ} (s .count) 0 in (
       omega arith,
       ⊎-elim (λ w. rw (w .1) (length-set (l .to) (l .i) _ ∙ l .inv .1)) (λ w. rw (w .1) (l .inv .1)) (c .if1 .came),
       ⊎-elim
-          (λ w. w .1 ∙ one-more (s .to .now) (s .count) (l .i) (l .to) (l .inv .2) (w .0 .taken) (omega (arith, w .0 .taken, c .before .before .before .pre .1)))
-          (λ w. w .1 ∙ l .inv .2 ∙ no-more (s .to .now) (s .count) (l .i) (w .0 .left))
+          (λ w. w .1 ∙ taken-next (s .to .now) zeros (l .i) (l .to) 0 (l .inv .2) (sym (getD-replicate {A = ℕ} (s .count) (l .i) 0 0 (w .0 .taken))) (omega (arith, w .0 .taken)) (omega (arith, w .0 .taken, c .before .before .before .pre .1)))
+          (λ w. w .1 ∙ l .inv .2 ∙ taken-all (s .to .now) zeros (l .i) (omega (arith, w .0 .left)))
           (c .if1 .came),
     )
 

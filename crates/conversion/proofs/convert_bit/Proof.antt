@@ -1,14 +1,16 @@
 -- The checks' verdict; a refusal comes before anything is written, and behind the checks the bit is converted.
-use mathlib.Core.Path.{_∙_, ap, ap₂}
+use mathlib.Core.Path.{_≡_, _∙_, ap, ap₂}
 use mathlib.Core.List.{List}
 use Prim.Native.Nat.{ℕ}
 use native.Mathlib.Omega.{arith}
-use lib.ListN.{length}
+use lib.ListN.{length, drop}
 use Rattle.checks.specs.declared.Answer.the-variants.{Done}
 use Rattle.checks.specs.Answers.{outcome}
 use Rattle.checks.specs.Laws.{Hold, checks-hold, settles-accepted, settles-refused}
 use Rattle.buffers.specs.Overwrite.{overwrite}
-use Rattle.conversion.specs.Conversion.{bitChecks, converted}
+use Rattle.buffers.specs.Positions.{at, table, after, Same, Below}
+use Rattle.buffers.specs.PositionLaws.{front-same}
+use Rattle.conversion.specs.Conversion.{convertBit, bitShares, bitChecks, converted}
 use Rattle.conversion.specs.Accepted.{SharedBit, call-sharing, call-room, call-drawn}
 use Rattle.conversion.specs.SecrecyProof.{bit-secrecy}
 use Rattle.conversion.proofs.Steps.{bit-alone}
@@ -21,6 +23,15 @@ holds c = checks-hold _ _ (c .before .before .check-bit .ensures) (c .enum-told 
 
 shared : (c : tie.After-enum-told) → let a = c .before .before .before .before .before .before .args in SharedBit (a .n) (a .q) (a .bits .now)
 shared c = call-sharing _ _ _ _ _ _ (holds c)
+
+-- the bits that are converted are the shares, and so are they as bits of the array
+lowest : (c : tie.After-bits-at) → let a = c .before .before .before .before .before .before .before .before .before .before .before .args in Below 2 (a .n) (at (c .bits-at .result)) × (table (a .n) (convertBit (a .q) (a .n) (at (c .bits-at .result)) (after (a .start) (at (a .words .now)))) ≡ bitShares (a .n) (a .q) (a .bits .now) (drop (a .start) (a .words .now)))
+lowest c =
+    let a = c .before .before .before .before .before .before .before .before .before .before .before .args in
+    let e = c .before .before .before in
+    let s = shared (e .before .before) in
+    let g : Same (a .n) (at (e .copy-eight .last .0)) (at (a .bits .now)) = λ i l. front-same _ (a .bits .now) _ 8 (e .copy-eight .ensures) (omega (arith, s .count, s .eight)) i (omega (arith, s .count)) in
+    bit-alone (a .n) (a .q) (a .bits .now) (a .words .now) (a .start) (e .copy-eight .last .0) _ (s .modulus) (omega (arith, s .two)) (s .eight) (s .below) g (c .bits-at .ensures)
 
 check-bit-requires : tie.Need-check-bit-requires
 check-bit-requires c κs = search needs
@@ -35,12 +46,21 @@ returns c = (settles-refused _ _ (c .before .before .before .check-bit .ensures)
 enum-told : tie.Need-enum-told
 enum-told c = search needs
 
+slice-aggregate-copy-eight : tie.Need-slice-aggregate-copy-eight
+slice-aggregate-copy-eight c = search needs
+
+copy-eight-requires : tie.Need-copy-eight-requires
+copy-eight-requires c κs = search needs
+
+bits-at-requires : tie.Need-bits-at-requires
+bits-at-requires c κs = search needs
+
 convert-at-requires : tie.Need-convert-at-requires
 convert-at-requires c κs =
-    let t = c .before in
+    let t = c .before .before .before .before .before .before .before in
     let h = holds t in
     let s = shared t in
-    (omega arith, s .two, record { large = s .modulus; small = omega arith }, omega (arith, s .count), call-drawn _ _ _ _ _ _ h, call-room _ _ _ _ _ _ h)
+    (s .two, s .eight, lowest (c .before .before) .0, record { large = s .modulus; small = omega arith }, call-drawn _ _ _ _ _ _ h, omega (arith, call-room _ _ _ _ _ _ h))
 
 same-length : tie.Need-same-length
 same-length c = search needs
@@ -48,11 +68,11 @@ same-length c = search needs
 returns-2 : tie.Need-returns-2
 unfolding converted
 returns-2 c =
-    let t = c .before .before .before .before in
+    let d = c .before .before .before .before .before in
+    let t = d .before .before .before .before .before in
     let a = t .before .before .before .before .before .before .args in
-    let s = shared t in
     let r = c .before .before .convert-at .ensures in (
-      ap₂ (λ (p : ℕ) (out : List ℕ). outcome (Done p) out) (r .1) (r .0 ∙ ap (overwrite (a .out .now) 0) (bit-alone _ _ (a .bits .now) (a .words .now) _ (s .modulus) (omega (arith, s .two)) (s .below)))
+      ap₂ (λ (p : ℕ) (out : List ℕ). outcome (Done p) out) (r .1) (r .0 ∙ ap (overwrite (a .out .now) 0) (lowest d .1))
           ∙ settles-accepted _ _ (t .before .before .check-bit .ensures) _ _ _ (t .enum-told .given .1),
       bit-secrecy _ _,
     )
@@ -65,6 +85,9 @@ convert-bit-spec =
     enum-known-r
     returns
     enum-told
+    slice-aggregate-copy-eight
+    copy-eight-requires
+    bits-at-requires
     convert-at-requires
     same-length
     returns-2)

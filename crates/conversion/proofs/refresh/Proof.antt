@@ -1,31 +1,32 @@
--- Share after share: in a share's turn it gains its words in a local, and those behind it lose theirs in the list.
-use mathlib.Core.Path.{_≡_, refl, ap, _∙_}
-use Prim.Native.Nat.{ℕ, _+_, _-_, _≤_, _<_}
+-- Share after share: a share gains its words in a local and is then written, and those behind it lose theirs in the array.
+use mathlib.Core.Path.{_≡_, refl, sym, _∙_}
+use Prim.Native.Nat.{_+_, _-_, _≤_, _<_}
+use native.Mathlib.Nat.{le-of-eq}
 use native.Mathlib.Omega.{arith}
-use borrow.Author.Needs.{needs}
-use lib.ListN.{length}
-use Rattle.residue.specs.Residue.{sub}
+use lib.ListN.{length, length-set}
 use Rattle.residue.specs.Laws.{add-cong, sub-cong, add-lt}
-use Rattle.buffers.specs.Positions.{at, after}
-use Rattle.buffers.specs.PositionLaws.{front-values}
-use Rattle.conversion.specs.Conversion.{pairs, refreshFrom, refresh}
-use Rattle.conversion.proofs.Steps.{pairs-step, Kept, kept-set, kept-again, Remaining, Paired, paired-none, paired-next, remaining-next, remaining-all}
+use Rattle.buffers.specs.Overwrite.{overwrite}
+use Rattle.buffers.specs.Positions.{at, table, after}
+use Rattle.buffers.specs.Rows.{values-none, values-next, values-all}
+use Rattle.conversion.specs.Conversion.{pairs, refresh}
+use Rattle.conversion.proofs.Steps.{Remaining, Paired, pairs-one, pairs-step, remaining-all, paired-none, paired-next, other-lt, paired-lt, share-done, remaining-next}
+use borrow.Author.Needs.{needs}
 use Rattle.conversion.proofs.refresh.Statement.{statement}
 use Rattle.conversion.proofs.refresh.Tie as tie
 
 abbrev Inv-loop2 : tie.InvT-loop2
-Inv-loop2 list₀ n q words start modulus p₀ i own₀ m₀ i-end list p own m =
-    (i < m) × (m ≤ n) × (p + (n - m) ≡ p₀ + (n - (i + 1))) × (own < q) × Kept q n list₀ list × Paired q n (at words) (refreshFrom q i (n - i) (after p₀ (at words)) (at list₀)) i m p list own
+Inv-loop2 list₀ n q words start row modulus p₀ i own₀ m₀ i-end list p own m = (i < m) × (m ≤ n) × Paired q (at words) i p₀ list₀ m p list own
 
 abbrev μ-loop2 : tie.MeasureT-loop2
-μ-loop2 list₀ n q words start modulus p₀ i own₀ m₀ i-end list p own m = n - m
+μ-loop2 list₀ n q words start row modulus p₀ i own₀ m₀ i-end list p own m = n - m
 
 abbrev Inv-loop : tie.InvT-loop
-Inv-loop list₀ n q words start modulus p₀ i₀ i-end list p i =
-    (i + 1 ≤ n) × (i-end ≡ n - 1) × (start ≤ p) × (p + pairs (n - i) ≡ start + pairs n) × Kept q n list₀ list × Remaining q n (at words) (refresh q n (after start (at words)) (at list₀)) i p list
+Inv-loop list₀ n q words start row₀ modulus p₀ i₀ i-end list row p i =
+    let T = refresh q n (after start (at words)) (at list₀) in
+    (i < n) × (start ≤ p) × (p + pairs (n - i) ≡ start + pairs n) × Remaining q (at words) n T i p list × (row ≡ overwrite row₀ 0 (table i T)) × (length row ≡ length row₀) × (i-end ≡ n - 1)
 
 abbrev μ-loop : tie.MeasureT-loop
-μ-loop list₀ n q words start modulus p₀ i₀ i-end list p i = n - i
+μ-loop list₀ n q words start row₀ modulus p₀ i₀ i-end list row p i = n - i
 
 -- the places where the call begins, and where a share's turn and a pair's turn do
 abbrev start : tie.In-loop Inv-loop2 μ-loop2 Inv-loop μ-loop → tie.Start Inv-loop2 μ-loop2 Inv-loop μ-loop
@@ -40,19 +41,21 @@ pair c = c .before .before
 abbrev loaded : tie.After-widen4 Inv-loop2 μ-loop2 Inv-loop μ-loop → tie.After-widen3 Inv-loop2 μ-loop2 Inv-loop μ-loop
 loaded c = c .before .before .before
 
+-- what is known of the shares before a share's turn
+abbrev remaining : (c : tie.In-loop Inv-loop2 μ-loop2 Inv-loop μ-loop) → let a = start c .args in Remaining (a .q) (at (a .words .now)) (a .n) (refresh (a .q) (a .n) (after (a .start) (at (a .words .now))) (at (a .list .now))) (c .before .loop .i) (c .before .loop .p) (c .before .loop .list)
+remaining c = c .before .loop .inv .3
+
 modulus : (c : tie.In-loop Inv-loop2 μ-loop2 Inv-loop μ-loop) → c .before .before .widen .result ≡ start c .args .q
 modulus c = c .before .before .widen .ensures
 
 -- the words of a share's pairs lie among those of step 3
 position : (c : tie.In-loop2 Inv-loop2 μ-loop2 Inv-loop μ-loop) → let a = start (turn (c .before)) .args in (a .start ≤ c .before .loop2 .p) × (c .before .loop2 .p < a .start + pairs (a .n))
 position c =
-    let t = turn (c .before) in
-    let n = start t .args .n in
-    let i = t .before .loop .i in
-    let d = pairs-step (n - i) (n - (i + 1)) (omega (arith, t .before .loop .inv .0)) in
-    let e = t .before .loop .inv .3 in
-    let f = c .before .loop2 .inv .2 in
-    (omega (arith, t .before .loop .inv .2, c .loop2-test .taken, c .before .loop2 .inv .0), omega (arith, c .loop2-test .taken))
+    let a = start (turn (c .before)) .args in
+    let i = turn (c .before) .before .loop .i in
+    let e = c .before .loop2 .inv .2 .position in
+    let d = pairs-step (a .n - i) (a .n - (i + 1)) (omega arith) in
+    (omega arith, omega arith)
 
 word : (c : tie.After-widen3 Inv-loop2 μ-loop2 Inv-loop μ-loop) → c .widen3 .result < start (turn (pair c .before)) .args .q
 word c =
@@ -60,31 +63,19 @@ word c =
     let p = pair c .before .loop2 .p in
     let h = position (pair c) in
     let e : s .args .start + (p - s .args .start) ≡ p = omega arith in
-    let b : at (s .args .words .now) p < s .args .q = rw e at (s .pre .4 .below (p - s .args .start) (omega arith)) in
+    let b : at (s .args .words .now) p < s .args .q = rw e at (s .pre .5 .below (p - s .args .start) (omega arith)) in
     omega (arith, c .widen3 .ensures)
 
--- the operands of the difference are below q, and so is it
+-- the shares of a pair are below q
+own : (c : tie.At-loop2 Inv-loop2 μ-loop2 Inv-loop μ-loop) → c .loop2 .own < start (turn c) .args .q
+own c = paired-lt _ _ _ _ _ _ _ (remaining (turn c)) (turn c .before .loop .inv .0) _ _ _ _ (c .loop2 .inv .2) (c .loop2 .inv .0)
+
+other : (c : tie.In-loop2 Inv-loop2 μ-loop2 Inv-loop μ-loop) → at (c .before .loop2 .list) (c .before .loop2 .m) < start (turn (c .before)) .args .q
+other c = let t = turn (c .before) in other-lt _ _ _ _ _ _ _ (remaining t) (t .before .loop .inv .0) _ _ _ _ (c .before .loop2 .inv .2) (c .before .loop2 .inv .0) (c .loop2-test .taken)
+
+-- and so are the operands of the difference
 operands : (c : tie.After-widen4 Inv-loop2 μ-loop2 Inv-loop μ-loop) → let q = start (turn (pair (loaded c) .before)) .args .q in (c .widen4 .result < q) × (loaded c .widen3 .result < q)
-operands c =
-    let d = pair (loaded c) in
-    (omega (arith, c .widen4 .ensures, d .before .loop2 .inv .4 .below _ (d .loop2-test .taken)), word (loaded c))
-
-difference : (c : tie.After-sub Inv-loop2 μ-loop2 Inv-loop μ-loop) → c .sub .result < start (turn (pair (loaded (c .before)) .before)) .args .q
-difference c =
-    let t = turn (pair (loaded (c .before)) .before) in
-    let m = modulus t in
-    let l : sub (t .before .before .widen .result) (c .before .widen4 .result) (loaded (c .before) .widen3 .result) < t .before .before .widen .result = add-lt _ (omega (arith, start t .pre .1 .large)) _ _ in
-    omega (arith, c .sub .ensures)
-
--- the lists of a turn are as long as before
-room : (c : tie.In-loop Inv-loop2 μ-loop2 Inv-loop μ-loop) → start c .args .n ≤ length (c .before .loop .list)
-room c = omega (arith, c .before .loop .inv .4 .same-length, start c .pre .2)
-
-ready : (c : tie.After-widen3 Inv-loop2 μ-loop2 Inv-loop μ-loop) → pair c .before .loop2 .m < length (pair c .before .loop2 .list)
-ready c = let d = pair c in omega (arith, room (turn (d .before)), d .before .loop2 .inv .4 .same-length, d .loop2-test .taken)
-
-written : (c : tie.After-narrow2 Inv-loop2 μ-loop2 Inv-loop μ-loop) → turn (c .before .before) .before .loop .i < length (c .before .before .loop2 .list)
-written c = let t = turn (c .before .before) in omega (arith, room t, c .before .before .loop2 .inv .4 .same-length, t .before .loop .inv .0)
+operands c = (omega (arith, c .widen4 .ensures, other (pair (loaded c))), word (loaded c))
 
 widen-requires : tie.Need-widen-requires Inv-loop2 μ-loop2 Inv-loop μ-loop
 widen-requires c κs = search needs
@@ -96,13 +87,13 @@ loop-holds : tie.Need-loop-holds Inv-loop2 μ-loop2 Inv-loop μ-loop
 loop-holds c =
     let s = c .before .before .before in
     let z : s .args .n - 0 ≡ s .args .n = omega arith in
-    (omega (arith, s .pre .0), refl, omega arith, rw z, record { same-length = refl; below = s .pre .3; behind = λ i h. refl }, rw z)
+    (omega (arith, s .pre .0), omega arith, rw z, remaining-all _ _ _ _ _ _ (s .pre .3) (s .pre .4) (λ t l. refl), values-none _ _, refl, refl)
 
 mul-widen : tie.Need-mul-widen Inv-loop2 μ-loop2 Inv-loop μ-loop
 mul-widen c = search needs
 
-slice-read-widen : tie.Need-slice-read-widen Inv-loop2 μ-loop2 Inv-loop μ-loop
-slice-read-widen c = let l = c .before .before .loop in omega (arith, l .inv .0, l .inv .4 .same-length, start (c .before) .pre .2)
+element-copy-out-widen : tie.Need-element-copy-out-widen Inv-loop2 μ-loop2 Inv-loop μ-loop
+element-copy-out-widen c = search needs
 
 widen-requires-2 : tie.Need-widen-requires-2 Inv-loop2 μ-loop2 Inv-loop μ-loop
 widen-requires-2 c κs = search needs
@@ -113,16 +104,13 @@ add-m c = search needs
 loop2-holds : tie.Need-loop2-holds Inv-loop2 μ-loop2 Inv-loop μ-loop
 loop2-holds c =
     let t = c .before .before in
-    let a = start t .args in
-    let l = t .before .loop in
-    let k = l .inv .4 in
-    (omega arith, omega (arith, l .inv .0), refl, rw (c .widen2 .ensures) (k .below _ (omega (arith, l .inv .0))), record { same-length = refl; below = k .below; behind = λ i h. refl }, rw (c .widen2 .ensures) (paired-none (a .q) (a .n) (at (a .words .now)) _ (l .i) (l .p) (l .list) (omega (arith, l .inv .0)) refl))
+    (omega arith, omega arith, rw (c .widen2 .ensures) (paired-none _ _ _ _ _ _ _ (remaining t) (t .before .loop .inv .0)))
 
 mul-widen-2 : tie.Need-mul-widen-2 Inv-loop2 μ-loop2 Inv-loop μ-loop
-mul-widen-2 c = omega (arith, position c, start (turn (c .before)) .pre .4 .room)
+mul-widen-2 c = omega (arith, position c, start (turn (c .before)) .pre .5 .room)
 
 shared-slice-read-widen : tie.Need-shared-slice-read-widen Inv-loop2 μ-loop2 Inv-loop μ-loop
-shared-slice-read-widen c = omega (arith, position (c .before), start (turn (c .before .before)) .pre .4 .room)
+shared-slice-read-widen c = omega (arith, position (c .before), start (turn (c .before .before)) .pre .5 .room)
 
 widen-requires-3 : tie.Need-widen-requires-3 Inv-loop2 μ-loop2 Inv-loop μ-loop
 widen-requires-3 c κs = search needs
@@ -131,13 +119,13 @@ add-requires : tie.Need-add-requires Inv-loop2 μ-loop2 Inv-loop μ-loop
 add-requires c κs =
     let t = turn (pair c .before) in
     let m = modulus t in
-    (omega (arith, pair c .before .loop2 .inv .3), omega (arith, word c), omega (arith, start t .pre .1 .small))
+    (omega (arith, own (pair c .before)), omega (arith, word c), omega (arith, start t .pre .2 .small))
 
 mul-widen-3 : tie.Need-mul-widen-3 Inv-loop2 μ-loop2 Inv-loop μ-loop
 mul-widen-3 c = search needs
 
-slice-read-widen-2 : tie.Need-slice-read-widen-2 Inv-loop2 μ-loop2 Inv-loop μ-loop
-slice-read-widen-2 c = ready (c .before .before)
+element-copy-out-widen-2 : tie.Need-element-copy-out-widen-2 Inv-loop2 μ-loop2 Inv-loop μ-loop
+element-copy-out-widen-2 c = search needs
 
 widen-requires-4 : tie.Need-widen-requires-4 Inv-loop2 μ-loop2 Inv-loop μ-loop
 widen-requires-4 c κs = search needs
@@ -147,19 +135,19 @@ sub-requires c κs =
     let t = turn (pair (loaded c) .before) in
     let m = modulus t in
     let h = operands c in
-    (omega arith, omega arith, omega (arith, start t .pre .1 .small))
+    (omega arith, omega arith, omega (arith, start t .pre .2 .small))
 
 narrow-requires : tie.Need-narrow-requires Inv-loop2 μ-loop2 Inv-loop μ-loop
-narrow-requires c κs = difference c
+narrow-requires c κs = let t = turn (pair (loaded (c .before)) .before) in rw (c .sub .ensures, modulus t) (add-lt _ (omega (arith, start t .pre .2 .large)) _ _)
 
 mul-list : tie.Need-mul-list Inv-loop2 μ-loop2 Inv-loop μ-loop
 mul-list c = search needs
 
-slice-write-list : tie.Need-slice-write-list Inv-loop2 μ-loop2 Inv-loop μ-loop
-slice-write-list c = ready (loaded (c .before .before))
+element-write-list : tie.Need-element-write-list Inv-loop2 μ-loop2 Inv-loop μ-loop
+element-write-list c = search needs
 
 add-p : tie.Need-add-p Inv-loop2 μ-loop2 Inv-loop μ-loop
-add-p c = let d = pair (loaded (c .before .before)) in omega (arith, position d, start (turn (d .before)) .pre .4 .room)
+add-p c = let d = pair (loaded (c .before .before)) in omega (arith, position d, start (turn (d .before)) .pre .5 .room)
 
 add-m-2 : tie.Need-add-m-2 Inv-loop2 μ-loop2 Inv-loop μ-loop
 add-m-2 c = search needs
@@ -170,30 +158,23 @@ loop2-less c = search needs
 loop2-again : tie.Need-loop2-again Inv-loop2 μ-loop2 Inv-loop μ-loop
 loop2-again c =
     let d = loaded (c .before .before) in
-    let l = pair d .before .loop2 in
-    let t = turn (pair d .before) in
-    let m = modulus t in
-    let a = start t .args in
-    let w = d .widen3 .ensures in
-    let z = c .before .before .before .before .add .ensures in
-    let h = pair d .loop2-test .taken in (
+    let l = pair d .before in
+    let t = turn l in
+    let m = modulus t in (
       omega arith,
       omega arith,
-      omega (arith, l .inv .2),
-      rw (z, m) (add-lt _ (omega (arith, start t .pre .1 .large)) _ _),
-      kept-set (l .inv .4) (l .m) (c .narrow .result) h (omega (arith, room t)) (rw (c .narrow .ensures) (difference (c .before))),
-      paired-next (a .q) (a .n) (at (a .words .now)) _ (t .before .loop .i) (l .p) (l .list) (l .m) (l .own) (l .inv .5) _ _ (l .inv .0) h (omega (arith, room t, l .inv .4 .same-length)) (z ∙ add-cong m refl w)
-          (c .narrow .ensures ∙ c .before .sub .ensures ∙ sub-cong m (c .before .before .widen4 .ensures) w),
+      paired-next _ _ _ _ _ _ _ (remaining t) (t .before .loop .inv .0) _ _ _ _ (l .loop2 .inv .2) (l .loop2 .inv .0) _ _ (omega arith) (c .before .before .before .before .add .ensures ∙ add-cong m refl (d .widen3 .ensures))
+          (c .narrow .ensures ∙ c .before .sub .ensures ∙ sub-cong m (c .before .before .widen4 .ensures) (d .widen3 .ensures)),
     )
 
 narrow-requires-2 : tie.Need-narrow-requires-2 Inv-loop2 μ-loop2 Inv-loop μ-loop
-narrow-requires-2 c κs = c .before .loop2 .inv .3
+narrow-requires-2 c κs = own (c .before)
 
-mul-list-2 : tie.Need-mul-list-2 Inv-loop2 μ-loop2 Inv-loop μ-loop
-mul-list-2 c = search needs
+mul-row : tie.Need-mul-row Inv-loop2 μ-loop2 Inv-loop μ-loop
+mul-row c = search needs
 
-slice-write-list-2 : tie.Need-slice-write-list-2 Inv-loop2 μ-loop2 Inv-loop μ-loop
-slice-write-list-2 c = written c
+slice-write-row : tie.Need-slice-write-row Inv-loop2 μ-loop2 Inv-loop μ-loop
+slice-write-row c = search needs
 
 add-i : tie.Need-add-i Inv-loop2 μ-loop2 Inv-loop μ-loop
 add-i c = search needs
@@ -203,35 +184,56 @@ loop-less c = search needs
 
 loop-again : tie.Need-loop-again Inv-loop2 μ-loop2 Inv-loop μ-loop
 loop-again c =
-    let l = c .before .before .loop2 in
     let t = turn (c .before .before) in
-    let a = start t .args in
-    let n = a .n in
+    let s = start t in
     let o = t .before .loop in
-    let d = pairs-step (n - o .i) (n - (o .i + 1)) (omega (arith, o .inv .0)) in
-    let e : n ≡ l .m = omega (arith, l .inv .1, c .before .loop2-test .left) in (
-      omega (arith, t .loop-test .taken, o .inv .1),
-      o .inv .1,
-      omega (arith, o .inv .2, l .inv .2, l .inv .0),
-      omega (arith, o .inv .3, l .inv .2),
-      kept-set (kept-again (o .inv .4) (l .inv .4)) (o .i) _ (omega (arith, o .inv .0)) (start t .pre .2) (rw (c .narrow2 .ensures) (l .inv .3)),
-      rw (c .narrow2 .ensures) (remaining-next (a .q) n (at (a .words .now)) _ (o .i) (l .p) (l .list) (l .m) (l .own) (l .inv .5) e (written c) ∙ o .inv .5),
+    let l = c .before .before .loop2 in
+    let e = l .inv .2 .position in
+    let d = pairs-step (s .args .n - o .i) (s .args .n - (o .i + 1)) (omega arith) in
+    let v = c .narrow2 .ensures ∙ sym (share-done _ _ _ _ _ _ _ (remaining t) (o .inv .0) _ _ _ _ (l .inv .2) (l .inv .0) (c .before .loop2-test .left) (l .inv .1)) in (
+      omega arith,
+      omega arith,
+      omega arith,
+      remaining-next _ _ _ _ _ _ _ (remaining t) (o .inv .0) _ _ _ _ (l .inv .2) (l .inv .0) (c .before .loop2-test .left) (l .inv .1),
+      values-next _ _ _ _ _ (o .inv .4) v (omega (arith, s .pre .6)),
+      length-set (o .row) (o .i) _ ∙ o .inv .5,
+      o .inv .6,
     )
 
+sub-row : tie.Need-sub-row Inv-loop2 μ-loop2 Inv-loop μ-loop
+sub-row c = search needs
+
+mul-row-2 : tie.Need-mul-row-2 Inv-loop2 μ-loop2 Inv-loop μ-loop
+mul-row-2 c = search needs
+
+element-copy-out-row : tie.Need-element-copy-out-row Inv-loop2 μ-loop2 Inv-loop μ-loop
+element-copy-out-row c = search needs
+
+sub-row-2 : tie.Need-sub-row-2 Inv-loop2 μ-loop2 Inv-loop μ-loop
+sub-row-2 c = search needs
+
+mul-row-3 : tie.Need-mul-row-3 Inv-loop2 μ-loop2 Inv-loop μ-loop
+mul-row-3 c = search needs
+
+slice-write-row-2 : tie.Need-slice-write-row-2 Inv-loop2 μ-loop2 Inv-loop μ-loop
+slice-write-row-2 c = search needs
+
 same-length : tie.Need-same-length Inv-loop2 μ-loop2 Inv-loop μ-loop
-same-length c = c .before .loop .inv .4 .same-length
+same-length c = search needs
 
 returns : tie.Need-returns Inv-loop2 μ-loop2 Inv-loop μ-loop
 returns c =
-    let s = c .before .before .before .before .before in
+    let l = c .before .before .loop in
+    let s = c .before .before .before .before .before .before in
     let a = s .args in
-    let l = c .before .loop in
-    let h : l .i + 1 ≡ a .n = omega (arith, l .inv .0, l .inv .1, c .loop-test .left) in
+    let e : l .i + 1 ≡ a .n = omega (arith, l .inv .0, l .inv .6, c .before .loop-test .left) in
+    let i : l .i ≡ a .n - 1 = omega arith in
+    let n : a .n - 1 + 1 ≡ a .n = omega arith in
     let z : a .n - l .i ≡ 1 = omega arith in
-    let e : pairs (a .n - l .i) ≡ 0 = rw z (unfold pairs in refl) in
-    let T = remaining-all (a .q) (a .n) (at (a .words .now)) _ (l .i) (l .p) (l .list) h (l .inv .5) in (
-      front-values _ _ _ _ (s .pre .2) (l .inv .4 .same-length) (λ i k. ap (λ (f : ℕ → ℕ). f i) T) (l .inv .4 .behind),
-      omega (arith, l .inv .3),
+    let p : pairs (a .n - l .i) ≡ 0 = rw z pairs-one in
+    let v = sym (share-done _ _ _ _ _ _ _ (l .inv .3) (l .inv .0) _ _ _ _ (paired-none _ _ _ _ _ _ _ (l .inv .3) (l .inv .0)) (omega arith) (le-of-eq (sym e)) (le-of-eq e)) in (
+      values-all _ _ _ _ _ n (values-next _ _ _ _ _ (values-all _ _ _ _ _ i (l .inv .4)) (rw i at v) (omega (arith, s .pre .6))),
+      omega (arith, l .inv .2),
     )
 
 pub refresh-spec : {M : Type 1} → statement M
@@ -246,7 +248,7 @@ refresh-spec =
     sub-i-end
     loop-holds
     mul-widen
-    slice-read-widen
+    element-copy-out-widen
     widen-requires-2
     add-m
     loop2-holds
@@ -255,21 +257,27 @@ refresh-spec =
     widen-requires-3
     add-requires
     mul-widen-3
-    slice-read-widen-2
+    element-copy-out-widen-2
     widen-requires-4
     sub-requires
     narrow-requires
     mul-list
-    slice-write-list
+    element-write-list
     add-p
     add-m-2
     loop2-less
     loop2-again
     narrow-requires-2
-    mul-list-2
-    slice-write-list-2
+    mul-row
+    slice-write-row
     add-i
     loop-less
     loop-again
+    sub-row
+    mul-row-2
+    element-copy-out-row
+    sub-row-2
+    mul-row-3
+    slice-write-row-2
     same-length
     returns)

@@ -1,66 +1,37 @@
--- The turns write the first j shares, and then the next is written; the bit is added to the first.
-use mathlib.Core.Path.{_≡_, refl, ap, ap₂, _∙_}
-use mathlib.Core.List.{List}
-use Prim.Native.Nat.{ℕ, _+_, _-_, _≤_, _<_}
-use native.Mathlib.Nat.{le-refl}
+-- The loop's turns up to j write the shares, those behind j nothing; then the bit is added to the first share.
+use mathlib.Core.Logic.{⊎-elim}
+use mathlib.Core.Path.{_≡_, refl, _∙_}
+use Prim.Native.Nat.{_+_, _-_, _≤_, _<_}
 use native.Mathlib.Omega.{arith}
-use lib.ListN.{length, set, length-set}
+use lib.ListN.{set}
+use Rattle.residue.specs.Laws.{add-cong, add-lt}
+use Rattle.buffers.specs.Positions.{at, after}
+use Rattle.conversion.proofs.Steps.{lessTwice-lt, Turned, turned-none, turned-below, turned-at, turned-past, turned-lt, turned-all}
 use borrow.Author.Needs.{needs}
-use Rattle.residue.specs.Residue.{sub}
-use Rattle.residue.specs.Residue as R
-use Rattle.residue.specs.Laws.{add-cong, sub-cong, add-lt}
-use Rattle.residue.specs.Sum.{running-none, running-next, running-all, sum-lt}
-use Rattle.buffers.specs.Overwrite.{overwrite}
-use Rattle.buffers.specs.Positions.{at, table, after}
-use Rattle.buffers.specs.PositionLaws.{front-at, front-behind}
-use Rattle.buffers.specs.Rows.{values-none, values-next, values-all}
-use Rattle.conversion.specs.Conversion.{lessTwice}
-use Rattle.conversion.proofs.Steps.{lessTwice-lt, turned, turned-below, turned-last, bit-added}
 use Rattle.conversion.proofs.xor_share.Statement.{statement}
 use Rattle.conversion.proofs.xor_share.Tie as tie
 
 abbrev Inv-loop : tie.InvT-loop
-Inv-loop list₀ j bit q words start modulus b sum₀ i₀ list sum i =
-    let r = after start (at words) in
-    (i ≤ j) × (list ≡ overwrite list₀ 0 (table i (turned q j bit list₀ r))) × (length list ≡ length list₀) × (sum ≡ R.sum q i r)
+Inv-loop j bit q words start a modulus b c₀ sum₀ i₀ c sum i = (i ≤ 8) × Turned q j bit (at a) (after start (at words)) i c sum
 
 abbrev μ-loop : tie.MeasureT-loop
-μ-loop list₀ j bit q words start modulus b sum₀ i₀ list sum i = j - i
+μ-loop j bit q words start a modulus b c₀ sum₀ i₀ c sum i = 8 - i
 
--- the places where the call begins, and where a turn does
-abbrev start : tie.In-loop Inv-loop μ-loop → tie.Start Inv-loop μ-loop
-start c = c .before .before .before .before .before .before
+-- the word of a turn
+word : (c : tie.After-widen3 Inv-loop μ-loop) → c .widen3 .result < c .before .before .before .before .before .before .before .before .args .q
+word c = rw (c .widen3 .ensures) (c .before .before .before .before .before .before .before .before .pre .4 .below (c .before .before .before .before .loop .i) (omega arith))
 
-abbrev turn : tie.After-widen4 Inv-loop μ-loop → tie.In-loop Inv-loop μ-loop
-turn c = c .before .before .before .before
+-- a turn before j, at j, and behind it
+below : (c : tie.After-add Inv-loop μ-loop) → Turned (c .before .before .before .before .before .before .before .before .before .before .before .args .q) (c .before .before .before .before .before .before .before .before .before .before .before .args .j) (c .before .before .before .before .before .before .before .before .before .before .before .args .bit) (at (c .before .before .before .before .before .before .before .before .before .before .before .args .t1)) (after (c .before .before .before .before .before .before .before .before .before .before .before .args .start) (at (c .before .before .before .before .before .before .before .before .before .before .before .args .words .now))) (c .before .before .before .before .before .before .before .loop .i + 1) (set (c .before .before .before .before .before .before .before .loop .c) (c .before .before .before .before .before .before .before .loop .i) (c .before .less-twice .result)) (c .add .result)
+below c =
+    turned-below _ _ _ _ _ _ _ _ (c .before .before .before .before .before .before .before .loop .inv .1) _ _ (omega arith) (omega arith)
+    (c .before .less-twice .ensures ∙ rw (c .before .before .before .before .before .before .before .before .widen2 .ensures, c .before .before .widen4 .ensures, c .before .before .before .widen3 .ensures))
+    (c .add .ensures ∙ add-cong (c .before .before .before .before .before .before .before .before .before .widen .ensures) refl (c .before .before .before .widen3 .ensures))
 
--- the word of a turn, the share that it meets, and the sum so far
-word : (c : tie.After-widen3 Inv-loop μ-loop) → c .widen3 .result < start (c .before .before) .args .q
-word c = rw (c .widen3 .ensures) (start (c .before .before) .pre .4 .below (c .before .before .before .loop .i) (c .before .before .loop-test .taken))
-
-share : (c : tie.In-loop Inv-loop μ-loop) → at (c .before .loop .list) (c .before .loop .i) ≡ at (start c .args .list .now) (c .before .loop .i)
-share c = ap (λ (l : List ℕ). at l (c .before .loop .i)) (c .before .loop .inv .1) ∙ front-behind _ _ _ _ (le-refl _)
-
-summed : (c : tie.At-loop Inv-loop μ-loop) → c .loop .sum < c .before .before .before .before .before .args .q
-summed c = rw (c .loop .inv .3) (sum-lt _ (omega (arith, c .before .before .before .before .before .pre .1 .large)) _ _)
-
--- the list with the next share too
-filled : (c : tie.After-less-twice2 Inv-loop μ-loop) → let a = c .before .before .before .before .before .before .before .args in set (c .before .before .loop .list) (a .j) (c .less-twice2 .result) ≡ overwrite (a .list .now) 0 (table (a .j + 1) (turned (a .q) (a .j) (a .bit) (a .list .now) (after (a .start) (at (a .words .now)))))
-filled c =
-    let s = c .before .before .before .before .before .before .before in
-    let a = s .args in
-    let l = c .before .before .loop in
-    let r = after (a .start) (at (a .words .now)) in
-    let e : l .i ≡ a .j = omega arith in
-    values-next _ _ _ _ _ (values-all _ _ _ _ _ e (l .inv .1)) (c .less-twice2 .ensures ∙ ap (λ (b : ℕ). lessTwice (a .q) b (sub (a .q) (l .sum) 0)) (c .before .before .before .widen2 .ensures) ∙ turned-last (a .q) (a .j) (a .bit) (a .list .now) r (l .sum) (running-all _ r _ _ _ e (l .inv .3)) (summed (c .before .before))) (s .pre .2)
-
-first : (c : tie.After-less-twice2 Inv-loop μ-loop) → let a = c .before .before .before .before .before .before .before .args in at (set (c .before .before .loop .list) (a .j) (c .less-twice2 .result)) 0 ≡ turned (a .q) (a .j) (a .bit) (a .list .now) (after (a .start) (at (a .words .now))) 0
-first c = ap (λ (l : List ℕ). at l 0) (filled c) ∙ front-at _ _ _ 0 (omega arith)
-
-inside : (c : tie.After-less-twice2 Inv-loop μ-loop) → let a = c .before .before .before .before .before .before .before .args in 0 < length (set (c .before .before .loop .list) (a .j) (c .less-twice2 .result))
-inside c =
-    let s = c .before .before .before .before .before .before .before in
-    omega (arith, length-set (c .before .before .loop .list) (s .args .j) (c .less-twice2 .result), c .before .before .loop .inv .2, s .pre .2)
+reached : (c : tie.After-less-twice2 Inv-loop μ-loop) → Turned (c .before .before .before .before .before .before .before .before .args .q) (c .before .before .before .before .before .before .before .before .args .j) (c .before .before .before .before .before .before .before .before .args .bit) (at (c .before .before .before .before .before .before .before .before .args .t1)) (after (c .before .before .before .before .before .before .before .before .args .start) (at (c .before .before .before .before .before .before .before .before .args .words .now))) (c .before .before .before .before .loop .i + 1) (set (c .before .before .before .before .loop .c) (c .before .before .before .before .loop .i) (c .less-twice2 .result)) (c .before .before .before .before .loop .sum)
+reached c =
+    turned-at _ _ _ _ _ _ _ _ (c .before .before .before .before .loop .inv .1) _ (omega (arith, c .before .before .before .before .before .before .before .before .pre .2 .large)) (omega arith) (c .before .if2 .taken)
+    (c .less-twice2 .ensures ∙ rw (c .before .before .before .before .before .widen2 .ensures))
 
 widen-requires : tie.Need-widen-requires Inv-loop μ-loop
 widen-requires c κs = search needs
@@ -69,7 +40,7 @@ widen-requires-2 : tie.Need-widen-requires-2 Inv-loop μ-loop
 widen-requires-2 c κs = search needs
 
 loop-holds : tie.Need-loop-holds Inv-loop μ-loop
-loop-holds c = (omega arith, values-none _ _, refl, running-none _ _)
+loop-holds c = (omega arith, turned-none (c .before .before .before .args .q) (c .before .before .before .args .j) (c .before .before .before .args .bit) (at (c .before .before .before .args .t1)) (after (c .before .before .before .args .start) (at (c .before .before .before .args .words .now))))
 
 add-widen : tie.Need-add-widen Inv-loop μ-loop
 add-widen c = search needs
@@ -86,31 +57,45 @@ widen-requires-3 c κs = search needs
 mul-widen-2 : tie.Need-mul-widen-2 Inv-loop μ-loop
 mul-widen-2 c = search needs
 
-slice-read-widen : tie.Need-slice-read-widen Inv-loop μ-loop
-slice-read-widen c = search needs
+array-read-widen : tie.Need-array-read-widen Inv-loop μ-loop
+array-read-widen c = search needs
 
 widen-requires-4 : tie.Need-widen-requires-4 Inv-loop μ-loop
 widen-requires-4 c κs = search needs
 
 less-twice-requires : tie.Need-less-twice-requires Inv-loop μ-loop
 less-twice-requires c κs =
-    let t = turn c in
-    let s = start t in
-    let b = t .before .before .widen2 .ensures in
-    (rw (c .widen4 .ensures, share t) (s .pre .3 _ (t .loop-test .taken)), word (c .before .before), omega (arith, s .pre .0), s .pre .1 .small)
+    let s = c .before .before .before .before .before .before .before .before .before in
+    let v : c .widen4 .result < s .args .q = rw (c .widen4 .ensures) (s .pre .3 (c .before .before .before .before .before .loop .i) (omega arith)) in
+    let b : c .before .before .before .before .before .before .widen2 .result ≡ s .args .bit = c .before .before .before .before .before .before .widen2 .ensures in
+    (omega arith, word (c .before), omega arith, s .pre .2 .small)
 
-mul-list : tie.Need-mul-list Inv-loop μ-loop
-mul-list c = search needs
+mul-c : tie.Need-mul-c Inv-loop μ-loop
+mul-c c = search needs
 
-slice-write-list : tie.Need-slice-write-list Inv-loop μ-loop
-slice-write-list c = search needs
+array-write-c : tie.Need-array-write-c Inv-loop μ-loop
+array-write-c c = search needs
 
 add-requires : tie.Need-add-requires Inv-loop μ-loop
 add-requires c κs =
-    let t = turn (c .before) in
-    let s = start t in
-    let m = t .before .before .before .widen .ensures in
-    (omega (arith, summed (t .before)), omega (arith, word (c .before .before .before)), omega (arith, s .pre .1 .small))
+    let s = c .before .before .before .before .before .before .before .before .before .before in
+    let m : c .before .before .before .before .before .before .before .before .widen .result ≡ s .args .q = c .before .before .before .before .before .before .before .before .widen .ensures in
+    let r : c .before .before .widen3 .result < s .args .q = word (c .before .before) in
+    let l : c .before .before .before .before .before .before .loop .sum < s .args .q = turned-lt _ _ _ _ _ _ _ _ (c .before .before .before .before .before .before .loop .inv .1) (omega (arith, s .pre .2 .large)) (omega arith) in
+    (omega arith, omega arith, omega (arith, s .pre .2 .small))
+
+less-twice-requires-2 : tie.Need-less-twice-requires-2 Inv-loop μ-loop
+less-twice-requires-2 c κs =
+    let s = c .before .before .before .before .before .before .before in
+    let l : c .before .before .before .loop .sum < s .args .q = turned-lt _ _ _ _ _ _ _ _ (c .before .before .before .loop .inv .1) (omega (arith, s .pre .2 .large)) (omega arith) in
+    let b : c .before .before .before .before .widen2 .result ≡ s .args .bit = c .before .before .before .before .widen2 .ensures in
+    (l, omega (arith, s .pre .2 .large), omega arith, s .pre .2 .small)
+
+mul-c-2 : tie.Need-mul-c-2 Inv-loop μ-loop
+mul-c-2 c = search needs
+
+array-write-c-2 : tie.Need-array-write-c-2 Inv-loop μ-loop
+array-write-c-2 c = search needs
 
 add-i : tie.Need-add-i Inv-loop μ-loop
 add-i c = search needs
@@ -119,62 +104,42 @@ loop-less : tie.Need-loop-less Inv-loop μ-loop
 loop-less c = search needs
 
 loop-again : tie.Need-loop-again Inv-loop μ-loop
-loop-again c =
-    let d = c .before .before in
-    let t = turn d in
-    let s = start t in
-    let a = s .args in
-    let l = t .before .loop in
-    let r = after (a .start) (at (a .words .now)) in
-    let m = t .before .before .before .widen .ensures in
-    let w = d .before .before .widen3 .ensures in
-    let v = c .before .less-twice .ensures ∙ ap₂ (lessTwice (a .q)) (t .before .before .widen2 .ensures) (sub-cong refl (d .widen4 .ensures ∙ share t) w) ∙ turned-below (a .q) (a .j) (a .bit) (a .list .now) r (l .i) (t .loop-test .taken) in
-    (omega arith, values-next _ _ _ _ _ (l .inv .1) v (omega (arith, s .pre .2)), length-set (l .list) (l .i) _ ∙ l .inv .2, running-next _ r _ _ _ (l .inv .3) (c .add .ensures ∙ add-cong m refl w))
+loop-again c = (
+  omega arith,
+  ⊎-elim
+      (λ w. rw (w .6, w .7) (below record { before = record { before = record { before = record { before = record { before = record { before = c .before; if1 = w .0 }; shared-slice-known2 = w .1 }; widen3 = w .2 }; widen4 = w .3 }; less-twice = w .4 }; add = w .5 }))
+      (⊎-elim
+      (λ w. rw (w .3, w .4) (reached record { before = record { before = record { before = c .before; if1 = w .0 }; if2 = w .1 }; less-twice2 = w .2 }))
+      (λ w. rw (w .2, w .3) (turned-past _ _ _ _ _ _ _ _ (c .before .before .loop .inv .1) (omega (arith, w .0 .left, w .1 .left)))))
+      (c .if1 .came),
+)
 
-less-twice-requires-2 : tie.Need-less-twice-requires-2 Inv-loop μ-loop
-less-twice-requires-2 c κs =
-    let s = c .before .before .before .before .before .before in
-    let b = c .before .before .widen2 .ensures in
-    (summed (c .before), omega (arith, s .pre .1 .large), omega (arith, s .pre .0), s .pre .1 .small)
-
-mul-list-2 : tie.Need-mul-list-2 Inv-loop μ-loop
-mul-list-2 c = search needs
-
-slice-write-list-2 : tie.Need-slice-write-list-2 Inv-loop μ-loop
-slice-write-list-2 c = search needs
-
-slice-read-widen-2 : tie.Need-slice-read-widen-2 Inv-loop μ-loop
-slice-read-widen-2 c = inside (c .before)
+array-read-widen-2 : tie.Need-array-read-widen-2 Inv-loop μ-loop
+array-read-widen-2 c = search needs
 
 widen-requires-5 : tie.Need-widen-requires-5 Inv-loop μ-loop
 widen-requires-5 c κs = search needs
 
 add-requires-2 : tie.Need-add-requires-2 Inv-loop μ-loop
 add-requires-2 c κs =
-    let d = c .before .before in
-    let s = d .before .before .before .before .before .before .before in
-    let m = d .before .before .before .before .widen .ensures in
-    let b = d .before .before .before .widen2 .ensures in
-    let v : c .widen5 .result < s .args .q = rw (c .widen5 .ensures, first d) (lessTwice-lt _ _ _ (omega (arith, s .pre .1 .large))) in
-    (omega arith, omega (arith, s .pre .0, s .pre .1 .large), omega (arith, s .pre .1 .small))
+    let s = c .before .before .before .before .before .before in
+    let m : c .before .before .before .before .widen .result ≡ s .args .q = c .before .before .before .before .widen .ensures in
+    let b : c .before .before .before .widen2 .result ≡ s .args .bit = c .before .before .before .widen2 .ensures in
+    let v : c .widen5 .result < s .args .q = rw (c .widen5 .ensures, c .before .before .loop .inv .1 .done 0 (omega arith) (omega arith)) (lessTwice-lt _ _ _ (omega (arith, s .pre .2 .large))) in
+    (omega arith, omega (arith, s .pre .2 .large), omega (arith, s .pre .2 .small))
 
 narrow-requires : tie.Need-narrow-requires Inv-loop μ-loop
 narrow-requires c κs =
-    let d = c .before .before .before in
-    let s = d .before .before .before .before .before .before .before in
-    rw (c .add2 .ensures, d .before .before .before .before .widen .ensures) (add-lt _ (omega (arith, s .pre .1 .large)) _ _)
+    let s = c .before .before .before .before .before .before .before in
+    rw (c .add2 .ensures, c .before .before .before .before .before .widen .ensures) (add-lt _ (omega (arith, s .pre .2 .large)) _ _)
 
-slice-write-list-3 : tie.Need-slice-write-list-3 Inv-loop μ-loop
-slice-write-list-3 c = inside (c .before .before .before .before)
-
-same-length : tie.Need-same-length Inv-loop μ-loop
-same-length c = search needs
+array-write-c-3 : tie.Need-array-write-c-3 Inv-loop μ-loop
+array-write-c-3 c = search needs
 
 returns : tie.Need-returns Inv-loop μ-loop
 returns c =
-    let d = c .before .before .before .before in
-    bit-added _ _ _ _ _ _ _ (filled d)
-    (c .narrow .ensures ∙ c .before .add2 .ensures ∙ add-cong (d .before .before .before .before .widen .ensures) (c .before .before .widen5 .ensures ∙ first d) (d .before .before .before .widen2 .ensures))
+    turned-all _ _ _ _ _ _ _ _ (c .before .before .before .before .loop .inv .1) _ (omega arith)
+    (c .narrow .ensures ∙ c .before .add2 .ensures ∙ add-cong (c .before .before .before .before .before .before .widen .ensures) (c .before .before .widen5 .ensures) (c .before .before .before .before .before .widen2 .ensures))
 
 pub xor-share-spec : {M : Type 1} → statement M
 xor-share-spec =
@@ -190,22 +155,21 @@ xor-share-spec =
     shared-slice-read-widen
     widen-requires-3
     mul-widen-2
-    slice-read-widen
+    array-read-widen
     widen-requires-4
     less-twice-requires
-    mul-list
-    slice-write-list
+    mul-c
+    array-write-c
     add-requires
+    less-twice-requires-2
+    mul-c-2
+    array-write-c-2
     add-i
     loop-less
     loop-again
-    less-twice-requires-2
-    mul-list-2
-    slice-write-list-2
-    slice-read-widen-2
+    array-read-widen-2
     widen-requires-5
     add-requires-2
     narrow-requires
-    slice-write-list-3
-    same-length
+    array-write-c-3
     returns)

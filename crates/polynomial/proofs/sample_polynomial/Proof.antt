@@ -8,7 +8,7 @@ use borrow.Author.Needs.{needs}
 use Rattle.checks.specs.Laws.{Hold, checks-hold, settles-accepted, settles-refused}
 use Rattle.buffers.specs.Positions.{at}
 use Rattle.buffers.specs.PositionLaws.{front-zeros}
-use Rattle.conversion.specs.Drawn.{Drawn}
+use Rattle.conversion.specs.Arrays.{Drawn}
 use Rattle.sampler.specs.Sampler.{both}
 use Rattle.sampler.specs.Secrecy.{Room}
 use Rattle.sampler.specs.Accepted.{pair-large, fit-drawn, fit-room}

@@ -7,7 +7,7 @@ use lib.ListN.{length}
 use borrow.Author.Needs.{needs}
 use Rattle.buffers.specs.Overwrite.{overwrite}
 use Rattle.buffers.specs.Blocks.{block-fits}
-use Rattle.conversion.specs.Drawn.{drawn-part}
+use Rattle.conversion.specs.Arrays.{drawn-part}
 use Rattle.sampler.specs.Sampler.{sampleWords}
 use Rattle.polynomial.specs.Polynomial.{polynomialShares, polynomialWords}
 use Rattle.polynomial.proofs.Steps.{coefficients-none, coefficients-next, coefficients-length}

@@ -8,7 +8,7 @@ use native.Mathlib.Nat.{le-refl}
 use native.Mathlib.Omega.{arith}
 use lib.ListN.{length, length-set}
 use borrow.Author.Needs.{needs}
-use Rattle.residue.specs.Laws.{add-cong, sub-cong}
+use Rattle.residue.specs.Laws.{sub-cong, sub-complement}
 use Rattle.buffers.specs.Overwrite.{overwrite}
 use Rattle.buffers.specs.Positions.{at, table}
 use Rattle.buffers.specs.PositionLaws.{front-behind}
@@ -43,18 +43,27 @@ operands c =
     let t = turn c in
     (omega (arith, total c, start t .pre .4 _ (t .loop-test .taken)), omega (arith, c .widen3 .ensures, start t .pre .2 _ (t .loop-test .taken)))
 
+-- what is taken off is at most q
+other-le : (c : tie.Joined1 Inv-loop μ-loop) → c .if1 .other ≤ start (turn (c .before)) .args .q
+other-le c =
+    let o = operands (c .before) in
+    let m = modulus (turn (c .before)) in
+    ⊎-elim (λ w. omega (arith, w .1)) (λ w. omega (arith, w .1)) (c .if1 .came)
+
 -- the new total
-next : (c : tie.Joined1 Inv-loop μ-loop) → let a = start (turn (c .before)) .args in let i = turn (c .before) .before .loop .i in c .if1 .sum ≡ signedSum (a .q) (a .negative) (at (a .work .now) i) (at (a .row .now) i)
+next : (c : tie.After-sub Inv-loop μ-loop) → let a = start (turn (c .before .before)) .args in let i = turn (c .before .before) .before .loop .i in c .sub .result ≡ signedSum (a .q) (a .negative) (at (a .work .now) i) (at (a .row .now) i)
 next c =
-    let d = c .before in
-    let a = start (turn d) .args in
+    let d = c .before .before in
+    let s = start (turn d) in
+    let a = s .args in
     let i = turn d .before .loop .i in
     let m = modulus (turn d) in
     let sign : Bool → ℕ = λ b. signedSum (a .q) b (at (a .work .now) i) (at (a .row .now) i) in
+    let le : at (a .row .now) i ≤ a .q = omega (arith, s .pre .2 i (turn d .loop-test .taken)) in
     ⊎-elim
-    (λ w. w .2 ∙ w .1 .ensures ∙ sub-cong m (total d) (d .widen3 .ensures) ∙ sym (ap sign (w .0 .taken)))
-    (λ w. w .2 ∙ w .1 .ensures ∙ add-cong m (total d) (d .widen3 .ensures) ∙ sym (ap sign (w .0 .left)))
-    (c .if1 .came)
+    (λ w. c .sub .ensures ∙ sub-cong m (total d) (w .1 ∙ d .widen3 .ensures) ∙ sym (ap sign (w .0 .taken)))
+    (λ w. let e : c .before .if1 .other ≡ a .q - at (a .row .now) i = omega (arith, w .1, d .widen3 .ensures) in c .sub .ensures ∙ sub-cong m (total d) e ∙ sub-complement (a .q) _ _ le ∙ sym (ap sign (w .0 .left)))
+    (c .before .if1 .came)
 
 widen-requires : tie.Need-widen-requires Inv-loop μ-loop
 widen-requires c κs = search needs
@@ -80,24 +89,23 @@ element-copy-out-widen c = search needs
 widen-requires-3 : tie.Need-widen-requires-3 Inv-loop μ-loop
 widen-requires-3 c κs = search needs
 
+sub-other : tie.Need-sub-other Inv-loop μ-loop
+sub-other c =
+    let m = modulus (turn (c .before)) in
+    let o = operands (c .before) in
+    omega arith
+
 sub-requires : tie.Need-sub-requires Inv-loop μ-loop
 sub-requires c κs =
     let t = turn (c .before) in
     let m = modulus t in
     let o = operands (c .before) in
-    (omega arith, omega arith, omega (arith, start t .pre .1 .small))
-
-add-requires : tie.Need-add-requires Inv-loop μ-loop
-add-requires c κs =
-    let t = turn (c .before) in
-    let m = modulus t in
-    let o = operands (c .before) in
-    (omega arith, omega arith, omega (arith, start t .pre .1 .small))
+    (omega (arith, other-le c), omega arith, omega (arith, start t .pre .1 .small))
 
 narrow-requires : tie.Need-narrow-requires Inv-loop μ-loop
 narrow-requires c κs =
-    let s = start (turn (c .before)) in
-    let i = turn (c .before) .before .loop .i in
+    let s = start (turn (c .before .before)) in
+    let i = turn (c .before .before) .before .loop .i in
     rw (next c) (signed-lt (s .args .q) (omega (arith, s .pre .1 .large)) (s .args .negative) (at (s .args .work .now) i) (at (s .args .row .now) i))
 
 mul-work : tie.Need-mul-work Inv-loop μ-loop
@@ -114,9 +122,9 @@ loop-less c = search needs
 
 loop-again : tie.Need-loop-again Inv-loop μ-loop
 loop-again c =
-    let l = turn (c .before .before) .before .loop in
-    let s = start (turn (c .before .before)) in
-    (omega arith, values-next _ _ _ _ _ (l .inv .1) (c .narrow .ensures ∙ next (c .before)) (omega (arith, s .pre .3)), length-set (l .work) (l .i) _ ∙ l .inv .2)
+    let t = turn (c .before .before .before) in
+    let l = t .before .loop in
+    (omega arith, values-next _ _ _ _ _ (l .inv .1) (c .narrow .ensures ∙ next (c .before)) (omega (arith, start t .pre .3)), length-set (l .work) (l .i) _ ∙ l .inv .2)
 
 same-length : tie.Need-same-length Inv-loop μ-loop
 same-length c = search needs
@@ -138,8 +146,8 @@ add-row-spec =
     mul-widen-2
     element-copy-out-widen
     widen-requires-3
+    sub-other
     sub-requires
-    add-requires
     narrow-requires
     mul-work
     slice-write-work

@@ -8,8 +8,9 @@ use Rattle.buffers.specs.Overwrite.{overwrite}
 use Rattle.buffers.specs.Positions.{at, table, after, Same, Below}
 use Rattle.buffers.specs.PositionLaws.{front-length}
 use Rattle.buffers.specs.Blocks.{block-fits}
-use Rattle.conversion.specs.Conversion.{bitWords}
-use Rattle.conversion.specs.Drawn.{drawn-part}
+use Rattle.checks.specs.Width.{bit-lt}
+use Rattle.conversion.specs.Conversion.{bitsAt, bitWords}
+use Rattle.conversion.specs.Arrays.{drawn-part}
 use Rattle.sampler.specs.Sampler.{row}
 use Rattle.sampler.specs.Laws.{row-lt}
 use Rattle.sampler.proofs.Steps.{row-from, totalsOf, totals-none, totals-below, totals-length, totals-next}
@@ -25,10 +26,10 @@ abbrev μ-loop : tie.MeasureT-loop
 
 -- the place where the call begins, seen from the loop, and a turn, seen from where its row stands
 abbrev start : tie.At-loop Inv-loop μ-loop → tie.Start Inv-loop μ-loop
-start c = c .before .before .before .before
+start c = c .before .before .before
 
 abbrev turn : tie.After-convert-at Inv-loop μ-loop → tie.In-loop Inv-loop μ-loop
-turn c = c .before .before
+turn c = c .before .before .before .before
 
 abbrev words : tie.Start Inv-loop μ-loop → ℕ → ℕ
 words s = after (s .args .start) (at (s .args .words .now))
@@ -40,34 +41,44 @@ below : (c : tie.At-loop Inv-loop μ-loop) → Below (start c .args .q) (start c
 below c = let s = start c in totals-below _ _ (positive s) (s .args .negative) (at (s .args .shares .now)) (words s) _ (c .loop .bit) _ (c .loop .inv .3)
 
 room : (c : tie.At-loop Inv-loop μ-loop) → length (c .loop .work) ≡ length (start c .args .work .now)
-room c = let s = start c in totals-length _ _ (positive s) (s .args .negative) (at (s .args .shares .now)) (words s) _ (c .loop .bit) _ (c .loop .inv .3) (s .pre .6)
+room c = let s = start c in totals-length _ _ (positive s) (s .args .negative) (at (s .args .shares .now)) (words s) _ (c .loop .bit) _ (c .loop .inv .3) (s .pre .5)
 
--- the row of a turn
-made : (c : tie.After-convert-at Inv-loop μ-loop) → let s = start (turn c .before) in Same (s .args .n) (at (c .convert-at .last .1 .1 .1 .1 .1 .1 .0)) (row (s .args .q) (s .args .n) (at (s .args .shares .now)) (words s) (turn c .before .loop .bit))
-made c = let s = start (turn c .before) in row-from _ _ (turn c .before .loop .bit) (s .args .start) _ _ (at (s .args .words .now)) _ _ (turn c .before .loop .inv .1) (c .convert-at .ensures .0)
+-- the bits of a turn, and its row
+bits : (c : tie.After-bits-at Inv-loop μ-loop) → let s = start (c .before .before) in Same (s .args .n) (at (c .bits-at .result)) (bitsAt (at (s .args .shares .now)) (c .before .before .loop .bit))
+bits c i l = c .bits-at .ensures .same i (omega (arith, start (c .before .before) .pre .1))
+
+made : (c : tie.After-convert-at Inv-loop μ-loop) → let s = start (turn c .before) in Same (s .args .n) (at (c .convert-at .last .1 .1 .1 .1 .1 .0)) (row (s .args .q) (s .args .n) (at (s .args .shares .now)) (words s) (turn c .before .loop .bit))
+made c =
+    let t = turn c .before in
+    let s = start t in
+    row-from _ _ (t .loop .bit) (s .args .start) _ _ _ (at (s .args .words .now)) _ _ (s .pre .3 .large) (omega (arith, s .pre .0)) (bits (c .before .before .before)) (t .loop .inv .1) (c .convert-at .ensures .0)
 
 loop-holds : tie.Need-loop-holds Inv-loop μ-loop
 loop-holds c =
-    let s = c .before .before .before in
-    (omega arith, omega arith, refl, totals-none _ _ (positive s) (s .args .negative) (at (s .args .shares .now)) (words s) _ (s .pre .6) (s .pre .7))
+    let s = c .before .before in
+    (omega arith, omega arith, refl, totals-none _ _ (positive s) (s .args .negative) (at (s .args .shares .now)) (words s) _ (s .pre .5) (s .pre .6))
+
+bits-at-requires : tie.Need-bits-at-requires Inv-loop μ-loop
+bits-at-requires c κs = search needs
 
 slice-aggregate-convert-at : tie.Need-slice-aggregate-convert-at Inv-loop μ-loop
 slice-aggregate-convert-at c = search needs
 
 convert-at-requires : tie.Need-convert-at-requires Inv-loop μ-loop
 convert-at-requires c κs =
-    let t = c .before in
+    let b = c .before .before in
+    let t = b .before in
     let l = t .before .loop in
     let s = start (t .before) in
     let w = bitWords (s .args .n) in
-    (omega (arith, t .loop-test .taken, s .pre .2), s .pre .0, s .pre .3, s .pre .4, drawn-part _ (l .bit * w) _ (l .inv .1) (block-fits w (t .loop-test .taken)) (s .pre .5), omega (arith, l .inv .2, s .pre .1))
+    (s .pre .0, s .pre .1, (λ i h. rw (bits b i h) (bit-lt _ _)), s .pre .3, drawn-part _ (l .bit * w) _ (l .inv .1) (block-fits w (t .loop-test .taken)) (s .pre .4), omega (arith, l .inv .2, s .pre .1))
 
 add-row-requires : tie.Need-add-row-requires Inv-loop μ-loop
 add-row-requires c κs =
     let d = c .before .before .before in
     let t = turn d .before in
     let s = start t in
-    (s .pre .1, s .pre .3, (λ i h. rw (made d i h) (row-lt _ _ (s .pre .3 .large) _ _ _ i h)), omega (arith, room t, s .pre .6), below t)
+    (s .pre .1, s .pre .3, (λ i h. rw (made d i h) (row-lt _ _ (s .pre .3 .large) _ _ _ i h)), omega (arith, room t, s .pre .5), below t)
 
 add-bit : tie.Need-add-bit Inv-loop μ-loop
 add-bit c = search needs
@@ -85,7 +96,7 @@ loop-again c =
       omega arith,
       omega (arith, l .inv .1, d .convert-at .ensures .1),
       ap length (d .convert-at .ensures .0) ∙ front-length _ _ _ (omega (arith, l .inv .2, s .pre .1)) ∙ l .inv .2,
-      totals-next _ _ (positive s) (s .args .negative) (at (s .args .shares .now)) (words s) _ (l .bit) _ (l .inv .3) _ (d .convert-at .last .1 .1 .1 .1 .1 .1 .0) (made d) (e .add-row .ensures),
+      totals-next _ _ (positive s) (s .args .negative) (at (s .args .shares .now)) (words s) _ (l .bit) _ (l .inv .3) _ (d .convert-at .last .1 .1 .1 .1 .1 .0) (made d) (e .add-row .ensures),
     )
 
 same-length : tie.Need-same-length Inv-loop μ-loop
@@ -106,6 +117,7 @@ add-string-spec =
     Inv-loop
     μ-loop
     loop-holds
+    bits-at-requires
     slice-aggregate-convert-at
     convert-at-requires
     add-row-requires

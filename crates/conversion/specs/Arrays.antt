@@ -1,4 +1,4 @@
--- What the functions below the calls ask of the words and of the modulus.
+-- What the functions below the call ask of their arguments, and what their arrays hold.
 use mathlib.Core.Path.{_≡_, ap, _∙_}
 use mathlib.Core.List.{List, _++_}
 use Prim.Native.Nat.{ℕ, _+_, _^_, _≤_, _<_}
@@ -7,10 +7,15 @@ use borrow.Author.Tests.{leb-true, le-leb}
 use lib.ListN.{length, take, drop, length-append, length-take, length-drop, List·getD-append}
 use lib.Seq.{getD-append-add, getD-take, getD-drop}
 use Rattle.residue.specs.Residue.{EachBelow}
-use Rattle.buffers.specs.Positions.{at, after, Below}
+use Rattle.buffers.specs.Positions.{at, after, Same, Below}
 use Rattle.checks.specs.Checks.{isNone, wordChecks}
 use Rattle.checks.specs.Laws.{Hold, none-each-below, each-below-none}
 use Rattle.secrecy.specs.Secrecy.{Full, between}
+
+-- eight words, of which the first n are those of f
+pub record Holds (n : ℕ) (f : ℕ → ℕ) (a : List ℕ) : Type 0 where
+  pub eight : length a ≡ 8
+  pub same : Same n (at a) f
 
 -- the list has `count` words from `start` on, each below q
 pub record Drawn (q start count : ℕ) (words : List ℕ) : Type 0 where
