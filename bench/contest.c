@@ -37,7 +37,7 @@ const contest contests[CONTESTS] = {
         .agreements = 20,
         .checks_len = 11,
         .checks = sampler_checks,
-        .goals = {{PLAIN, "plain C", 0.85, 0, 2}, {CAREFUL, "careful C", 1.05, 0, 2}},
+        .goals = {{PLAIN, "plain C", 0.75, 0, 2}, {CAREFUL, "careful C", 1.00, 0, 2}},
         .count = 1 + 2 * COMPILERS,
         .contestants =
             {

@@ -44,8 +44,7 @@ static inline void add_string(const uint16_t *shares, size_t n, size_t k, uint32
 }
 
 /* A sample's m is a constant, so that the loop over the coefficients leaves no trace in it. A sample is a function that NAME calls, and a polynomial
- * is NAME itself. gcc makes other code of each the other way round: of samples faster by 4 to 7 in 100 from n = 3 on, of polynomials slower.
- * Samples keep the form in which they have always been measured. */
+ * is NAME itself. gcc makes other code of each the other way round; both keep the form in which they have always been measured. */
 #ifdef IS_polynomial
 #define CALL tp_answer NAME
 #define COEFFICIENTS size_t m,

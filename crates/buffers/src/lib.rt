@@ -33,9 +33,9 @@ pub fn zero(to: &mut [Word], count: usize)
     requires { ⌜ (count ≤ 8) × (count ≤ length (now to)) ⌝ }
     ensures { λ _. ⌜ now (to .exit) ≡ overwrite (now (to .entry)) 0 (replicate count 0) ⌝ }
 {
-    for i in 0..8 {
-        if i < count {
-            to[i] = 0;
+    for j in 0..8 {
+        if j < count {
+            to[j] = 0;
         }
     }
 }

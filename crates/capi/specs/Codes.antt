@@ -7,7 +7,8 @@ use borrow.Author.Tests.{ltb-true}
 use lib.Dec.{ltb}
 use lib.ListN.{length, replicate}
 use Rattle.checks.specs.Checks.{Check, refused, verdict}
-use Rattle.checks.specs.Laws.{All, refusal-passes, settled-answer}
+use Rattle.checks.specs.Laws.{settled-answer}
+use Rattle.checks.specs.Refusals.{All, refusal-passes}
 use Rattle.masking.specs.Sharing.{maskChecks, masked, openStringChecks, openedString, openResidueChecks, openedResidue}
 use Rattle.binomial.specs.Signed.{centreChecks, centred, weightChecks, weightDifference}
 use Rattle.binomial.specs.Sets.{setChecks, parameterSet}

@@ -2,7 +2,6 @@
 use mathlib.Core.Path.{_≡_, refl, sym, ap, ap₂, _∙_}
 use mathlib.Core.Bool.{Bool, true, false, cond, not, _&&_, false≢true}
 use mathlib.Core.List.{List, [], _∷_, _++_, append-nil}
-use mathlib.Core.Logic.{_≢_}
 use mathlib.Core.Option.{Option, none, some}
 use Prim.Native.Nat.{ℕ, zero, suc, suc-le-suc, _+_, _≤_, _<_}
 use native.Mathlib.Nat.{le-of-suc-le-suc}
@@ -199,38 +198,6 @@ refuses {A} {B} a b code position (c ∷ cs) ds e = go (refuses a b code positio
         let i : c .code ≡ code = cc in
         let j : c .position ≡ position = cc in
         fail b c (cs ++ ds) h ∙ rw (i, j)
-
--- a refusal that does not come from the last check does not depend on it
-pub refuses-before : {A : Type 0} (a : A) (code position : ℕ) (cs : List Check) (c d : Check) → code ≢ c .code → verdict (cs ++ (c ∷ [])) a ≡ refused code position → verdict (cs ++ (d ∷ [])) a ≡ refused code position
-refuses-before {A} a code position cs c d other e = go (checked cs) refl
-  where
-    last : (t : Bool) → c .holds ≡ t → verdict (c ∷ []) a ≡ refused code position → ⊥
-    last true h f = not-both (sym (pass-all a) ∙ sym (pass a c [] h) ∙ f)
-    last false h f =
-        let g : _≡_ {A = Verdict A} (refused (c .code) (c .position)) (refused code position) = sym (fail a c [] h) ∙ f in
-        let i : code ≡ c .code = cc in
-        other i
-
-    go : (v : Verdict Unit) → checked cs ≡ v → verdict (cs ++ (d ∷ [])) a ≡ refused code position
-    go (accepted u) h = absurd (last (c .holds) refl (sym (passes-part a cs (c ∷ []) (accepted-holds tt u cs h)) ∙ e))
-    go (refused f p) h = refuses tt a f p cs (d ∷ []) h ∙ sym (refuses tt a f p cs (c ∷ []) h) ∙ e
-
--- what every check's number and position pass, a refusal's pass
-abbrev pub All : (ℕ → ℕ → Bool) → List Check → Bool
-All test [] = true
-All test (c ∷ cs) = test (c .code) (c .position) && All test cs
-
-pub refusal-passes : (test : ℕ → ℕ → Bool) {A : Type 0} (a : A) (code position : ℕ) (cs : List Check) → All test cs ≡ true → verdict cs a ≡ refused code position → test code position ≡ true
-refusal-passes test a code position [] b e = absurd (not-both (sym (pass-all a) ∙ e))
-refusal-passes test {A} a code position (c ∷ cs) b e = go (refusal-passes test a code position cs) (c .holds) refl (and-true (test (c .code) (c .position)) (All test cs) b)
-  where
-    go : (All test cs ≡ true → verdict cs a ≡ refused code position → test code position ≡ true) → (t : Bool) → c .holds ≡ t → (test (c .code) (c .position) ≡ true) × (All test cs ≡ true) → test code position ≡ true
-    go ih true h s = ih (s .1) (sym (pass a c cs h) ∙ e)
-    go ih false h s =
-        let d : _≡_ {A = Verdict A} (refused (c .code) (c .position)) (refused code position) = sym (fail a c cs h) ∙ e in
-        let i : code ≡ c .code = cc in
-        let j : position ≡ c .position = cc in
-        rw (i, j) (s .0)
 
 pub refuses-alike : {A B : Type 0} (a : A) (b : B) (code position : ℕ) (cs : List Check) → verdict cs a ≡ refused code position → verdict cs b ≡ refused code position
 refuses-alike a b code position cs e = ap (λ (ds : List Check). verdict ds b) (sym (append-nil cs)) ∙ refuses a b code position cs [] e

@@ -3,4 +3,5 @@ pub mod Checks
 pub mod Width
 pub mod Answers
 pub mod Laws
+pub mod Refusals
 pub mod FromBits

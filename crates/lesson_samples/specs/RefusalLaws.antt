@@ -9,7 +9,8 @@ use lib.Dec.{ltb}
 use lib.ListN.{length}
 use Rattle.buffers.specs.Positions.{at}
 use Rattle.checks.specs.Checks.{Check, refused, verdict}
-use Rattle.checks.specs.Laws.{Hold, All, refusal-passes, and-true}
+use Rattle.checks.specs.Laws.{Hold, and-true}
+use Rattle.checks.specs.Refusals.{All, refusal-passes}
 use Rattle.text.specs.Ascii.{ascii}
 use Rattle.text.specs.Text.{decimal}
 use Rattle.text.specs.Laws.{decimal-length, line-three, length-line-three}

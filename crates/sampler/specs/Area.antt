@@ -8,7 +8,8 @@ use native.Mathlib.Nat as N
 use native.Mathlib.Omega.{arith}
 use lib.ListN.{length, drop}
 use Rattle.checks.specs.Checks.{Check, Outcome, accepted, refused, verdict, atLeast, wordChecks, bufferChecks}
-use Rattle.checks.specs.Laws.{Hold, accepted-holds, refuses-before}
+use Rattle.checks.specs.Laws.{Hold, accepted-holds}
+use Rattle.checks.specs.Refusals.{refuses-before}
 use Rattle.sampler.specs.Sampler.{Buffers, sampleWords, sampleShares, pairChecks, sharesWritten, sampled}
 use Rattle.sampler.specs.Accepted.{SharedPair, shared-pair, fit-first, fit-drawn, fit-room, fit-holds}
 use Rattle.sampler.specs.Written.{written-answer, written-accepted}
