@@ -7,7 +7,6 @@
 #include "checks.h"
 
 #include <stdbool.h>
-#include <string.h>
 
 /* Steps 1 to 3: the row of bit t, from its n(n - 1) words. */
 static inline void convert_bit(const uint16_t *shares, size_t t, size_t n, uint32_t q, const uint16_t *words, uint16_t row[8])
@@ -60,12 +59,16 @@ CALL(size_t n, size_t k, uint16_t q, COEFFICIENTS const uint16_t *x, size_t x_le
     tp_answer checked = check_all(n, k, q, m, x, x_len, y, y_len, words, words_len, out_len, work_len);
     if (checked.code != 0)
         return checked;
-    memset(work, 0, n * sizeof *work);
+    for (size_t i = 0; i < 8; i++)
+        if (i < n)
+            work[i] = 0;
     for (size_t c = 0; c < m; c++) {
         add_string(x + c * n, n, k, q, words + c * 2 * k * n * (n - 1), false, work);
         add_string(y + c * n, n, k, q, words + (c * 2 + 1) * k * n * (n - 1), true, work);
-        memcpy(out + c * n, work, n * sizeof *work);
-        memset(work, 0, n * sizeof *work);
+        for (size_t i = 0; i < n; i++) {
+            out[c * n + i] = work[i];
+            work[i] = 0;
+        }
     }
     return checked;
 }

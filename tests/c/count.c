@@ -7,7 +7,7 @@
 #include <stdlib.h>
 #include <string.h>
 
-enum { SHARES = 8, ROWS = 32, SAMPLE_WORDS = ROWS * SHARES * (SHARES - 1), MOST = 3, START = 5, NOISE = 256 };
+enum { SHARES = 8, BITS = 16, SAMPLE_WORDS = 2 * BITS * SHARES * (SHARES - 1), MOST = 3, START = 5, NOISE = 256 };
 
 static uint16_t x[NOISE * SHARES], y[NOISE * SHARES], words[START + MOST * SAMPLE_WORDS], out[MOST * SHARES], work[SHARES];
 
@@ -45,7 +45,7 @@ int main(int argc, char **argv)
     unsigned long input = strtoul(argv[6], NULL, 10);
     if (strcmp(argv[1], "tp_split_noise") == 0)
         return count_split(m, n, k, q, input);
-    if (m > MOST || n > SHARES || 2 * k > ROWS)
+    if (m > MOST || n > SHARES || k > BITS)
         return EXIT_FAILURE;
     make(x, shares, 1u << k, input);
     make(y, shares, 1u << k, input);

@@ -7,7 +7,7 @@
 #include <stdlib.h>
 #include <string.h>
 
-enum { GUARD_SIZE = 64, GUARD = 0xA5 };
+enum { GUARD_SIZE = 512, GUARD = 0xA5 };
 
 enum pass pass;
 

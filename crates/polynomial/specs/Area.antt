@@ -1,12 +1,12 @@
--- What the call of version 2 answered, which asked for 2kn work positions, the call that asks for n answers too (document 02, A.6).
-use mathlib.Core.Path.{_≡_}
+-- What the call of version 2 accepted, which asked for 2kn work positions, the call that asks for n accepts too (document 02, A.6).
+use mathlib.Core.Path.{_≡_, refl}
 use mathlib.Core.List.{List, _++_}
 use mathlib.Core.Logic.{_≢_}
-use Prim.Native.Nat.{ℕ, _*_}
+use Prim.Native.Nat.{ℕ, _*_, _≤_}
 use lib.ListN.{length}
 use Rattle.checks.specs.Checks.{Outcome, accepted, refused, bufferChecks}
 use Rattle.sampler.specs.Sampler.{Buffers, sharesWritten}
-use Rattle.sampler.specs.Area.{area-accepted, area-refused, rows-enough}
+use Rattle.sampler.specs.Area.{area-accepted, area-turned-down, area-refused, area-smaller}
 use Rattle.polynomial.specs.Polynomial.{polynomialShares, polynomialWords, stringsChecks, sampledPolynomial}
 use Rattle.polynomial.specs.Accepted.{first-pair, shared-strings}
 
@@ -22,7 +22,12 @@ module _ (n k q m : ℕ) (x y words out work : List ℕ) where
   unfolding sampledPolynomial
   accepted-before =
       area-accepted (stringsChecks n k q m x y) 0 (polynomialWords n k m) q (m * n) words (polynomialWords n k m) (polynomialShares n k q m x y words) out work (2 * k * n) n
-      (λ h. rows-enough (first-pair (shared-strings n k q m x y h)))
+      (λ h. area-smaller (first-pair (shared-strings n k q m x y h)))
+
+  pub turned-down-before : (position : ℕ) → before .answer ≡ refused 11 position → n ≤ length work → now .answer ≡ accepted (polynomialWords n k m)
+  unfolding sampledPolynomial
+  turned-down-before position =
+      area-turned-down (stringsChecks n k q m x y) 0 (polynomialWords n k m) q (m * n) words (polynomialWords n k m) (polynomialShares n k q m x y words) out work (2 * k * n) n position refl
 
   pub refused-before : (code position : ℕ) → code ≢ 11 → (before .answer ≡ refused code position → now .answer ≡ refused code position) × (now .answer ≡ refused code position → before .answer ≡ refused code position)
   unfolding sampledPolynomial

@@ -1,18 +1,24 @@
--- What the call of version 2 answered, which asked for 2kn work positions and left zeros in them, the call that asks for n answers too
--- (document 02, A.6).
-use mathlib.Core.Path.{_≡_, sym, ap, _∙_}
+-- What the call of version 2 accepted, which asked for 2kn work positions and left zeros in them, the call that asks for n accepts too (document
+-- 02, A.6).
+use mathlib.Core.Path.{_≡_, refl, sym, ap, _∙_}
+use mathlib.Core.Bool.{Bool, true, not, false≢true}
 use mathlib.Core.List.{List, [], _∷_, _++_, append-assoc}
 use mathlib.Core.Logic.{_≢_}
 use Prim.Native.Nat.{ℕ, _+_, _*_, _≤_}
 use native.Mathlib.Nat as N
 use native.Mathlib.Omega.{arith}
+use borrow.Author.Tests.{le-leb}
+use lib.Dec.{eqb}
 use lib.ListN.{length, drop}
-use Rattle.checks.specs.Checks.{Check, Outcome, accepted, refused, verdict, atLeast, wordChecks, bufferChecks}
-use Rattle.checks.specs.Laws.{Hold, accepted-holds}
-use Rattle.checks.specs.Refusals.{refuses-before}
+use Rattle.checks.specs.Checks.{Check, Outcome, Verdict, accepted, refused, verdict, checked, atLeast, wordChecks, bufferChecks}
+use Rattle.checks.specs.Laws.{Hold, hold-both, accepts, accepted-holds, refuses, refuses-alike}
+use Rattle.checks.specs.Refusals.{All, refusal-passes, refuses-before}
 use Rattle.sampler.specs.Sampler.{Buffers, sampleWords, sampleShares, pairChecks, sharesWritten, sampled}
 use Rattle.sampler.specs.Accepted.{SharedPair, shared-pair, fit-first, fit-drawn, fit-room, fit-holds}
 use Rattle.sampler.specs.Written.{written-answer, written-accepted}
+
+abbrev notEleven : ℕ → ℕ → Bool
+notEleven code position = not (eqb code 11)
 
 -- ---- any call that puts the checks `first` before those of its buffers
 
@@ -48,13 +54,28 @@ module _ (first : List Check) (start count q n : ℕ) (words : List ℕ) (end : 
       ∙ refuses-before end code position others (atLeast 11 old (length work)) (atLeast 11 new (length work)) other
       (ap (λ (cs : List Check). verdict cs end) (sym (others-first old)) ∙ sym (written-answer (asking old) end shares old out work) ∙ e)
 
+  -- where no other check has the number 11, one that 11 turned down is accepted where the work area has room for what is asked
+  pub area-turned-down : (old new position : ℕ) → All notEleven others ≡ true → o old .answer ≡ refused 11 position → new ≤ length work → o new .answer ≡ accepted end
+  area-turned-down old new position none e r = go (checked others) refl
+    where
+      turned : verdict (others ++ (atLeast 11 old (length work) ∷ [])) end ≡ refused 11 position
+      turned = ap (λ (cs : List Check). verdict cs end) (sym (others-first old)) ∙ sym (written-answer (asking old) end shares old out work) ∙ e
+
+      go : (v : Verdict Unit) → checked others ≡ v → o new .answer ≡ accepted end
+      go (accepted u) h =
+          written-answer (asking new) end shares new out work ∙ ap (λ (cs : List Check). verdict cs end) (others-first new)
+          ∙ accepts end (others ++ (atLeast 11 new (length work) ∷ [])) (hold-both others (atLeast 11 new (length work) ∷ []) (accepted-holds tt u others h) (le-leb _ _ r, tt))
+      go (refused code p) h =
+          absurd (false≢true (refusal-passes notEleven end 11 position others none
+          (refuses-alike tt end code p others h ∙ sym (refuses tt end code p others (atLeast 11 old (length work) ∷ []) h) ∙ turned)))
+
   -- a refusal with another number than 11 does not depend on the area that is asked for
   pub area-refused : (old new code position : ℕ) → code ≢ 11 → (o old .answer ≡ refused code position → o new .answer ≡ refused code position) × (o new .answer ≡ refused code position → o old .answer ≡ refused code position)
   area-refused old new code position other = (refused-other old new code position other, refused-other new old code position other)
 
--- a sample's 2kn is at least n
-pub rows-enough : {n k q : ℕ} {x y : List ℕ} → SharedPair n k q x y → n ≤ 2 * k * n
-rows-enough {n} {k} P =
+-- n is at most 2kn
+pub area-smaller : {n k q : ℕ} {x y : List ℕ} → SharedPair n k q x y → n ≤ 2 * k * n
+area-smaller {n} {k} P =
     let b : 1 ≤ 2 * k = omega (arith, P .one) in
     omega (arith, N.mul-le-mul b (N.le-refl n))
 
@@ -73,7 +94,12 @@ module _ (n k q : ℕ) (x y words : List ℕ) (start : ℕ) (out work : List ℕ
   unfolding sampled
   accepted-before =
       area-accepted (pairChecks n k q x y) start (sampleWords n k) q n words (start + sampleWords n k) (sampleShares n k q x y (drop start words)) out work (2 * k * n) n
-      (λ h. rows-enough (shared-pair n k q x y h))
+      (λ h. area-smaller (shared-pair n k q x y h))
+
+  pub turned-down-before : (position : ℕ) → before .answer ≡ refused 11 position → n ≤ length work → now .answer ≡ accepted (start + sampleWords n k)
+  unfolding sampled
+  turned-down-before position =
+      area-turned-down (pairChecks n k q x y) start (sampleWords n k) q n words (start + sampleWords n k) (sampleShares n k q x y (drop start words)) out work (2 * k * n) n position refl
 
   pub refused-before : (code position : ℕ) → code ≢ 11 → (before .answer ≡ refused code position → now .answer ≡ refused code position) × (now .answer ≡ refused code position → before .answer ≡ refused code position)
   unfolding sampled
