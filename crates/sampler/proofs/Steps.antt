@@ -25,7 +25,7 @@ row-from n q t start p x b v before r large one same e d i h =
     ∙ convertBit-local q n b (bitsAt x t) (after p v) (after (t * bitWords n) (after start v)) (rw (same 0 one) (omega arith)) (omega arith) same (λ j k. ap (λ (w : ℕ → ℕ). w j) (after-at start (t * bitWords n) p v e)) i h
 
 -- a list written over another that was written over l, each with n values in front
-pub again : (n : ℕ) (f g : ℕ → ℕ) (l m u : List ℕ) → m ≡ overwrite l 0 (table n f) → u ≡ overwrite m 0 (table n g) → u ≡ overwrite l 0 (table n g)
+again : (n : ℕ) (f g : ℕ → ℕ) (l m u : List ℕ) → m ≡ overwrite l 0 (table n f) → u ≡ overwrite m 0 (table n g) → u ≡ overwrite l 0 (table n g)
 again n f g l m u e d = d ∙ ap (λ (k : List ℕ). overwrite k 0 (table n g)) e ∙ front-over l _ _ (le-of-eq (length-table n f ∙ sym (length-table n g)))
 
 -- the totals after t bits of a string, which were those of l before
@@ -68,12 +68,12 @@ totals-shares n k q start half x y words work first second pos z e h d =
     w : ℕ → ℕ
     w = after start (at words)
 
-    share : Same n (at second) (sampleShare q n k (at x) (at y) (after start (at words)))
+    share : Same n (at second) (sampleShare q n k (at x) (at y) w)
     share i l =
         ap (λ (m : List ℕ). at m i) d ∙ front-at first n _ i l
-        ∙ ap₂ (signedSum q true) (ap (λ (m : List ℕ). at m i) e ∙ front-at work n _ i l ∙ ap (λ (a : ℕ). signedSum q false a (stringShare q n k (at x) (after start (at words)) i)) (z i l))
+        ∙ ap₂ (signedSum q true) (ap (λ (m : List ℕ). at m i) e ∙ front-at work n _ i l ∙ ap (λ (a : ℕ). signedSum q false a (stringShare q n k (at x) w i)) (z i l))
         (ap (λ (v : ℕ → ℕ). stringShare q n k (at y) v i) (after-at start (k * bitWords n) half (at words) h))
-        ∙ signed-share q pos n k (at x) (at y) (after start (at words)) i
+        ∙ signed-share q pos n k (at x) (at y) w i
 
 -- zeros over them: the list as it was
 pub totals-cleared : (n : ℕ) (f g : ℕ → ℕ) (work first second u : List ℕ) → n ≤ length work → Same n (at work) (λ i. 0)

@@ -45,29 +45,26 @@ module _ (first : List Check) (start count q n : ℕ) (words : List ℕ) (end : 
   abbrev others : List Check
   others = first ++ (wordChecks start count q words ++ (atLeast 10 n (length out) ∷ []))
 
-  others-first : (area : ℕ) → asking area ≡ others ++ (atLeast 11 area (length work) ∷ [])
-  others-first area = sym (append-assoc first (wordChecks start count q words ++ (atLeast 10 n (length out) ∷ [])) (atLeast 11 area (length work) ∷ []))
+  eleven-last : (area : ℕ) → o area .answer ≡ verdict (others ++ (atLeast 11 area (length work) ∷ [])) end
+  eleven-last area =
+      written-answer (asking area) end shares area out work
+      ∙ ap (λ (cs : List Check). verdict cs end) (sym (append-assoc first (wordChecks start count q words ++ (atLeast 10 n (length out) ∷ [])) (atLeast 11 area (length work) ∷ [])))
 
   refused-other : (old new code position : ℕ) → code ≢ 11 → o old .answer ≡ refused code position → o new .answer ≡ refused code position
   refused-other old new code position other e =
-      written-answer (asking new) end shares new out work ∙ ap (λ (cs : List Check). verdict cs end) (others-first new)
-      ∙ refuses-before end code position others (atLeast 11 old (length work)) (atLeast 11 new (length work)) other
-      (ap (λ (cs : List Check). verdict cs end) (sym (others-first old)) ∙ sym (written-answer (asking old) end shares old out work) ∙ e)
+      eleven-last new ∙ refuses-before end code position others (atLeast 11 old (length work)) (atLeast 11 new (length work)) other (sym (eleven-last old) ∙ e)
 
   -- where no other check has the number 11, one that 11 turned down is accepted where the work area has room for what is asked
   pub area-turned-down : (old new position : ℕ) → All notEleven others ≡ true → o old .answer ≡ refused 11 position → new ≤ length work → o new .answer ≡ accepted end
   area-turned-down old new position none e r = go (checked others) refl
     where
-      turned : verdict (others ++ (atLeast 11 old (length work) ∷ [])) end ≡ refused 11 position
-      turned = ap (λ (cs : List Check). verdict cs end) (sym (others-first old)) ∙ sym (written-answer (asking old) end shares old out work) ∙ e
-
       go : (v : Verdict Unit) → checked others ≡ v → o new .answer ≡ accepted end
       go (accepted u) h =
-          written-answer (asking new) end shares new out work ∙ ap (λ (cs : List Check). verdict cs end) (others-first new)
+          eleven-last new
           ∙ accepts end (others ++ (atLeast 11 new (length work) ∷ [])) (hold-both others (atLeast 11 new (length work) ∷ []) (accepted-holds tt u others h) (le-leb _ _ r, tt))
       go (refused code p) h =
           absurd (false≢true (refusal-passes notEleven end 11 position others none
-          (refuses-alike tt end code p others h ∙ sym (refuses tt end code p others (atLeast 11 old (length work) ∷ []) h) ∙ turned)))
+          (refuses-alike tt end code p others h ∙ sym (refuses tt end code p others (atLeast 11 old (length work) ∷ []) h) ∙ sym (eleven-last old) ∙ e)))
 
   -- a refusal with another number than 11 does not depend on the area that is asked for
   pub area-refused : (old new code position : ℕ) → code ≢ 11 → (o old .answer ≡ refused code position → o new .answer ≡ refused code position) × (o new .answer ≡ refused code position → o old .answer ≡ refused code position)
