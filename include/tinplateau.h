@@ -19,7 +19,7 @@
 
 /* MINOR rises with a new call, MAJOR where a call or the meaning of an answer changes. */
 #define TINPLATEAU_VERSION_MAJOR 3
-#define TINPLATEAU_VERSION_MINOR 0
+#define TINPLATEAU_VERSION_MINOR 1
 
 /* Has the compiler warn where an answer is dropped; gcc does so in C in spite of a cast to void. Defined as nothing (-DTP_NODISCARD=) it is
  * off. */
@@ -48,7 +48,7 @@ extern "C" {
 #define TP_MAX_FILE 60000
 #define TP_REPORT_ROOM 1200
 
-/* The random words of a converted bit, and of a sample; the words of a sample's work area, which is a polynomial's too; the shares of a
+/* The random words of a converted bit, of a converted string, and of a sample; the words of a sample's work area, which is a polynomial's too; the shares of a
  * polynomial's x, y and output, each, and its random words; the bytes of shared ML-KEM noise, where k is that of the set, and the shares of x and
  * y that they are split into, each; the bytes of a lesson's text buffer. They are of type size_t, and not for #if. */
 #ifdef __cplusplus
@@ -57,6 +57,7 @@ extern "C" {
 #define TP_SIZE(number) ((size_t)(number))
 #endif
 #define TP_BIT_WORDS(n) (TP_SIZE(n) * (TP_SIZE(n) - 1))
+#define TP_VALUE_WORDS(n, k) (TP_SIZE(k) * TP_BIT_WORDS(n))
 #define TP_SAMPLE_WORDS(n, k) (2 * TP_SIZE(k) * TP_BIT_WORDS(n))
 #define TP_SAMPLE_WORK(n) TP_SIZE(n)
 #define TP_POLYNOMIAL_SHARES(n, m) (TP_SIZE(m) * TP_SIZE(n))
@@ -212,6 +213,16 @@ tp_parameters tp_parameter_set(size_t number);
 TP_NODISCARD
 tp_answer tp_convert_bit(size_t n, uint16_t q, const uint16_t *bits, size_t bits_len, const uint16_t *words, size_t words_len, size_t start,
                          uint16_t *out, size_t out_len);
+
+/* Converts a shared string of k bits to n shares modulo q whose residue is the string's number modulo q, with the first kn(n - 1) words. Bit i
+ * takes the next n(n - 1), bits from 0 up, and counts 2 to the power i times. Answers kn(n - 1), the number of words it takes. With words drawn
+ * so, no n - 1 of the shares tell anything of the string. q may be smaller than the string's number.
+ * Refuses 1 (n); 2 (k); 3 (q below 3); 4 (not n shares); 6 (a share of more than k bits, with its position); 8 (fewer than kn(n - 1) words); 9
+ * (one of those not below q, with its position); 10 (fewer than n output words). Words and output words past those are neither read nor
+ * written. */
+TP_NODISCARD
+tp_answer tp_convert_value(size_t n, size_t k, uint16_t q, const uint16_t *shares, size_t shares_len, const uint16_t *words, size_t words_len,
+                           uint16_t *out, size_t out_len);
 
 /* Samples: n shares modulo q of the weight of x less the weight of y, with the W = 2kn(n - 1) words from start on. Answers the position behind
  * them, start + W, where the next call may start. With words drawn so, no n - 1 of the shares tell anything of x and y. The first n words of

@@ -140,6 +140,19 @@ extern "C" {
         out_len: usize,
     ) -> tp_answer;
 
+    /// Converts a shared string of k bits to n shares modulo q of its number.
+    pub fn tp_convert_value(
+        n: usize,
+        k: usize,
+        q: u16,
+        shares: *const u16,
+        shares_len: usize,
+        words: *const u16,
+        words_len: usize,
+        out: *mut u16,
+        out_len: usize,
+    ) -> tp_answer;
+
     /// Samples: n shares modulo q of the weight of x less the weight of y.
     pub fn tp_sample(
         n: usize,

@@ -6,7 +6,7 @@ mod refusal;
 mod sizes;
 
 pub use refusal::{Reason, Refusal};
-pub use sizes::{bit_words, noise_bytes, noise_shares, polynomial_shares, polynomial_words, sample_words, sample_work, text_room};
+pub use sizes::{bit_words, noise_bytes, noise_shares, polynomial_shares, polynomial_words, sample_words, sample_work, text_room, value_words};
 pub use sizes::{MAX_BITS, MAX_COEFFICIENTS, MAX_FILE, MAX_SHARES, MAX_WORDS, MIN_BITS, MIN_COEFFICIENTS, MIN_SHARES, REPORT_ROOM};
 
 /// An opened string: its k bits, bit 0 the lowest.
@@ -129,6 +129,20 @@ pub fn parameter_set(number: usize) -> Result<Parameters, Refusal> {
 /// neither read nor written.
 pub fn convert_bit(n: usize, q: u16, bits: &[u16], words: &[u16], start: usize, out: &mut [u16]) -> Result<usize, Refusal> {
     answered(unsafe { ffi::tp_convert_bit(n, q, bits.as_ptr(), bits.len(), words.as_ptr(), words.len(), start, out.as_mut_ptr(), out.len()) })
+}
+
+/// Converts a shared string of k bits to n shares modulo q whose residue is the string's number modulo q, with the first [`value_words`] words.
+/// Bit i takes the next [`bit_words`], bits from 0 up, and counts 2 to the power i times. Answers how many words it takes. With words drawn
+/// evenly, each apart from all others and used once, no n - 1 of the shares tell anything of the string. q may be smaller than the string's
+/// number.
+///
+/// Refuses, in this order: `ShareCount`; `StringLength`; `Modulus`, for q below 3; `XCount`; `XWidth`, with the share's position; `WordCount`;
+/// `WordRange`, for one of the words taken, with its position; `OutputRoom`, for fewer than n output words. Words and output words past those
+/// are neither read nor written.
+pub fn convert_value(n: usize, k: usize, q: u16, shares: &[u16], words: &[u16], out: &mut [u16]) -> Result<usize, Refusal> {
+    answered(unsafe {
+        ffi::tp_convert_value(n, k, q, shares.as_ptr(), shares.len(), words.as_ptr(), words.len(), out.as_mut_ptr(), out.len())
+    })
 }
 
 /// Samples: n shares modulo q of the weight of x less the weight of y, with the [`sample_words`] words from position start on. Answers the

@@ -28,9 +28,14 @@ pub const MAX_FILE: usize = 60_000;
 /// The bytes that the text buffer of [`report_text`](crate::report_text) must have for every file.
 pub const REPORT_ROOM: usize = 1_200;
 
-/// The random words that [`convert_bit`](crate::convert_bit) takes: n(n - 1). This and the next six saturate.
+/// The random words that [`convert_bit`](crate::convert_bit) takes: n(n - 1). This and the next seven saturate.
 pub const fn bit_words(n: usize) -> usize {
     n.saturating_mul(n.saturating_sub(1))
+}
+
+/// The random words that [`convert_value`](crate::convert_value) takes: kn(n - 1).
+pub const fn value_words(n: usize, k: usize) -> usize {
+    k.saturating_mul(bit_words(n))
 }
 
 /// The random words that [`sample`](crate::sample) takes: 2kn(n - 1).

@@ -2,7 +2,7 @@
 use mathlib.Core.Path.{_≡_, refl, sym, ap, _∙_, fun-ext}
 use mathlib.Core.List.{List, [], _∷_, _++_}
 use mathlib.Core.Logic.{_≢_}
-use Prim.Native.Nat.{ℕ, zero, suc, suc-le-suc, _+_, _-_, _≤_, _<_}
+use Prim.Native.Nat.{ℕ, zero, suc, suc-le-suc, _+_, _≤_, _<_}
 use native.Mathlib.Nat as N
 use native.Mathlib.Nat.{suc-inj, suc-ne-zero, not-suc-le-zero, le-of-suc-le-suc}
 use native.Mathlib.Decide.{decLt, ℕ-discrete}
@@ -12,7 +12,7 @@ use lib.ListN.{length, set, take, drop, replicate, length-replicate, getD-replic
 use lib.Seq.{getD-set-same, getD-set-other, getD-take, getD-drop, take-all}
 use Rattle.residue.specs.Residue.{EachBelow}
 use Rattle.buffers.specs.Overwrite.{overwrite}
-use Rattle.buffers.specs.Laws.{length-overwrite, front-below, front-from}
+use Rattle.buffers.specs.Laws.{length-overwrite, front-below, front-from, front-over}
 use Rattle.buffers.specs.Positions.{at, table, after, join, Same, Below}
 
 pub after-zero : (f : ℕ → ℕ) → after 0 f ≡ f
@@ -123,3 +123,13 @@ module _ (l : List ℕ) (n : ℕ) (f : ℕ → ℕ) where
       go : (i : ℕ) → Dec (i < n) → at m i ≡ at (overwrite l 0 (table n f)) i
       go i (yes k) = a i k ∙ sym (front-at i k)
       go i (no k) = b i (omega arith) ∙ sym (front-behind i (omega arith))
+
+-- n values in front of a list, written over n others
+pub front-twice : (n : ℕ) (f g : ℕ → ℕ) (l m u : List ℕ) → m ≡ overwrite l 0 (table n f) → u ≡ overwrite m 0 (table n g) → u ≡ overwrite l 0 (table n g)
+front-twice n f g l m u e d = d ∙ ap (λ (k : List ℕ). overwrite k 0 (table n g)) e ∙ front-over l _ _ (N.le-of-eq (length-table n f ∙ sym (length-table n g)))
+
+-- n zeros
+pub table-zeros : (n : ℕ) → replicate n 0 ≡ table n (λ i. 0)
+unfolding table
+table-zeros zero = refl
+table-zeros (suc n) = ap (λ (l : List ℕ). 0 ∷ l) (table-zeros n)

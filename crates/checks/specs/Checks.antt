@@ -98,6 +98,10 @@ shareChecks count k x y = exactly 4 count x ∷ exactly 5 count y ∷ narrow 6 k
 abbrev pub wordChecks : ℕ → ℕ → ℕ → List ℕ → List Check
 wordChecks start count q words = atLeast 8 (start + count) (length words) ∷ allBelowFrom 9 q start (take count (drop start words)) ∷ []
 
+-- 8 to 10: the words, and room in the output for so many shares
+abbrev pub outputChecks : ℕ → ℕ → ℕ → List ℕ → ℕ → ℕ → List Check
+outputChecks start count q words shares room = wordChecks start count q words ++ (atLeast 10 shares room ∷ [])
+
 -- 10 and 11: room in the output for so many shares, and in the work area for so many totals
 abbrev pub roomChecks : ℕ → ℕ → ℕ → ℕ → List Check
 roomChecks shares room totals area = atLeast 10 shares room ∷ atLeast 11 totals area ∷ []

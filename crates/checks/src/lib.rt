@@ -5,7 +5,7 @@ ghost use Prim.Native.Nat.{_+_, _*_, _^_, _≤_};
 ghost use lib.Dec.{leb, ltb};
 ghost use lib.ListN.{length, take, drop};
 ghost use Rattle.checks.specs.Search.{firstFrom, firstNotBelow};
-ghost use Rattle.checks.specs.Checks.{refused, checked, within, parameterChecks, shareChecks, wordChecks, bufferChecks};
+ghost use Rattle.checks.specs.Checks.{refused, checked, within, parameterChecks, shareChecks, wordChecks, outputChecks, bufferChecks};
 ghost use Rattle.checks.specs.Answers.{foundReading, checkedReading};
 
 // Document 01's number for a refused call, and the position (its 'place') of what is unfit.
@@ -222,8 +222,28 @@ pub fn check_words(words: &[Word], start: usize, bits: u32, per: u32, q: Word) -
     Checked::Passed
 }
 
-// Checks 8 to 11: the words of a call that takes `per` from `start` on for each of its bits, room in the output for `shares` words, and in
-// the work area for `totals`.
+// Checks 8 to 10: the words of a call that takes `per` from `start` on for each of its bits, and room in the output for `shares` words.
+pub fn check_output(
+    words: &[Word],
+    start: usize,
+    bits: u32,
+    per: u32,
+    q: Word,
+    shares: usize,
+    room: usize,
+) -> Checked
+    ensures { λ r. ⌜ checkedReading r ≡ checked (outputChecks start (bits * per) q (now (words .entry)) shares room) ⌝ }
+{
+    if let Checked::Failed(r) = check_words(words, start, bits, per, q) {
+        return Checked::Failed(r);
+    }
+    if room < shares {
+        return refuse(OUTPUT_ROOM, 0);
+    }
+    Checked::Passed
+}
+
+// Checks 8 to 11: those, and room in the work area for `totals` words.
 pub fn check_buffers(
     words: &[Word],
     start: usize,
@@ -237,11 +257,8 @@ pub fn check_buffers(
 ) -> Checked
     ensures { λ r. ⌜ checkedReading r ≡ checked (bufferChecks start (bits * per) q (now (words .entry)) shares room totals area) ⌝ }
 {
-    if let Checked::Failed(r) = check_words(words, start, bits, per, q) {
+    if let Checked::Failed(r) = check_output(words, start, bits, per, q, shares, room) {
         return Checked::Failed(r);
-    }
-    if room < shares {
-        return refuse(OUTPUT_ROOM, 0);
     }
     if area < totals {
         return refuse(WORK_ROOM, 0);

@@ -9,7 +9,7 @@ use Rattle.residue.specs.Residue.{add, sub, sum}
 use Rattle.buffers.specs.Overwrite.{overwrite}
 use Rattle.buffers.specs.Positions.{at, table, after}
 use Rattle.checks.specs.Width.{bit}
-use Rattle.checks.specs.Checks.{Check, Outcome, verdict, settled, shareCount, modulusAtLeast, exactly, narrow, atLeast, wordChecks}
+use Rattle.checks.specs.Checks.{Check, Outcome, verdict, settled, shareCount, stringLength, modulusAtLeast, exactly, narrow, outputChecks}
 
 -- bit t of each share of a string
 abbrev pub bitsAt : (ℕ → ℕ) → ℕ → ℕ → ℕ
@@ -18,6 +18,10 @@ bitsAt x t i = bit (x i) t
 -- how many words a bit takes
 abbrev pub bitWords : ℕ → ℕ
 bitWords n = n * (n - 1)
+
+-- and a string of k bits
+abbrev pub valueWords : ℕ → ℕ → ℕ
+valueWords n k = k * bitWords n
 
 -- how many pairs n shares have. Steps 1 and 2 take that many words, and step 3 again.
 unfoldable pub pairs : ℕ → ℕ
@@ -76,7 +80,26 @@ module _ (q : ℕ) where
   unfoldable pub convertBit : ℕ → (ℕ → ℕ) → (ℕ → ℕ) → ℕ → ℕ
   convertBit n b w = refresh n (after (pairs n) w) (convert n b w)
 
--- ---- the call
+  -- ---- the n shares of bit t of a string, whose bits take the words from bit 0 on, each the next n(n − 1)
+
+  unfoldable pub row : ℕ → (ℕ → ℕ) → (ℕ → ℕ) → ℕ → ℕ → ℕ
+  row n x w t = convertBit n (bitsAt x t) (after (t * bitWords n) w)
+
+-- ---- the checks of a call that converts a string of k bits
+
+-- of its shares: 1, 2, 3, 4, 6
+abbrev pub stringChecks : ℕ → ℕ → ℕ → List ℕ → List Check
+stringChecks n k q shares = shareCount n ∷ stringLength k ∷ modulusAtLeast 3 q ∷ exactly 4 n shares ∷ narrow 6 k shares ∷ []
+
+-- and behind them 8, 9, 10
+abbrev pub valueChecks : ℕ → ℕ → ℕ → List ℕ → List ℕ → ℕ → ℕ → List Check
+valueChecks n k q shares words start room = stringChecks n k q shares ++ outputChecks start (valueWords n k) q words n room
+
+-- A call that passes its checks answers `end` and leaves the shares in front of the output, and the rest as it was.
+abbrev pub sharesOut : List Check → ℕ → List ℕ → List ℕ → Outcome ℕ (List ℕ)
+sharesOut checks end shares out = settled (verdict checks end) out (overwrite out 0 shares)
+
+-- ---- the one-bit call
 
 unfoldable pub bitShares : ℕ → ℕ → List ℕ → List ℕ → List ℕ
 bitShares n q bits words = table n (convertBit q n (at bits) (at words))
@@ -85,14 +108,10 @@ bitShares n q bits words = table n (convertBit q n (at bits) (at words))
 abbrev pub sharingChecks : ℕ → ℕ → List ℕ → List Check
 sharingChecks n q bits = shareCount n ∷ modulusAtLeast 3 q ∷ exactly 4 n bits ∷ narrow 6 1 bits ∷ []
 
--- and of the word list and the output: 8, 9, 10
-abbrev pub bufferChecks : ℕ → ℕ → List ℕ → ℕ → ℕ → List Check
-bufferChecks n q words start room = wordChecks start (bitWords n) q words ++ (atLeast 10 n room ∷ [])
-
+-- and behind them 8, 9, 10
 abbrev pub bitChecks : ℕ → ℕ → List ℕ → List ℕ → ℕ → ℕ → List Check
-bitChecks n q bits words start room = sharingChecks n q bits ++ bufferChecks n q words start room
+bitChecks n q bits words start room = sharingChecks n q bits ++ outputChecks start (bitWords n) q words n room
 
 -- The call takes the words from `start` on and answers the position after its last one (document 02, A.2).
 unfoldable pub converted : ℕ → ℕ → List ℕ → List ℕ → ℕ → List ℕ → Outcome ℕ (List ℕ)
-converted n q bits words start out =
-    settled (verdict (bitChecks n q bits words start (length out)) (start + bitWords n)) out (overwrite out 0 (bitShares n q bits (drop start words)))
+converted n q bits words start out = sharesOut (bitChecks n q bits words start (length out)) (start + bitWords n) (bitShares n q bits (drop start words)) out

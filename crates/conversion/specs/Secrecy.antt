@@ -9,23 +9,23 @@ use Rattle.masking.specs.Sharing.{xorAll}
 use Rattle.secrecy.specs.Secrecy.{Full, between, Indistinguishable, AgreeBut}
 use Rattle.conversion.specs.Conversion.{bitWords, bitShares, sharingChecks, converted}
 
--- The outcome of an accepted call whose own words are the list `words`, which stands from `start` on: the position after it, and n shares, which
--- are those of the written steps; their residue is the call's own bit.
-pub record Converts (n q : ℕ) (bits words : List ℕ) (start : ℕ) (o : Outcome ℕ (List ℕ)) : Type 0 where
-  pub end : o .answer ≡ accepted (start + bitWords n)
-  pub shares : take n (o .buffers) ≡ bitShares n q bits words
-  pub residue : reduce q (total (take n (o .buffers))) ≡ xorAll bits
+-- The outcome of an accepted call: what it answers, its n shares, and their residue.
+pub record Converts (n q answered : ℕ) (written : List ℕ) (opened : ℕ) (o : Outcome ℕ (List ℕ)) : Type 0 where
+  pub answer : o .answer ≡ accepted answered
+  pub shares : take n (o .buffers) ≡ written
+  pub residue : reduce q (total (take n (o .buffers))) ≡ opened
 
--- Two such outcomes that agree in every share but ℓ.
-pub record AlikeBut (ℓ n q start : ℕ) (bits words : List ℕ) (o : Outcome ℕ (List ℕ)) (bits′ words′ : List ℕ) (o′ : Outcome ℕ (List ℕ)) : Type 0 where
-  pub one : Converts n q bits words start o
-  pub other : Converts n q bits′ words′ start o′
+-- Two such outcomes, with the same answer, that agree in every share but ℓ.
+pub record AlikeBut (ℓ n q answered : ℕ) (written : List ℕ) (opened : ℕ) (o : Outcome ℕ (List ℕ)) (written′ : List ℕ) (opened′ : ℕ) (o′ : Outcome ℕ (List ℕ)) : Type 0 where
+  pub one : Converts n q answered written opened o
+  pub other : Converts n q answered written′ opened′ o′
   pub agree : AgreeBut ℓ n (o .buffers) (o′ .buffers)
 
--- For every share ℓ left out and any two shared bits that pass their checks: a one-to-one map of the full lists of words makes the two
--- calls alike in all other shares, whatever words stand before and behind them, the same in both, and whatever stood in their outputs before.
+-- For every share ℓ left out and any two shared bits that pass their checks: a one-to-one map of the full lists of words makes the two calls
+-- alike in all other shares, whatever words stand before and behind them, the same in both, and whatever stood in their outputs before. Each
+-- answers the position after its words, its shares are those of the written steps, and their residue is its own bit.
 unfoldable pub BitSecrecy : ℕ → ℕ → Type 0
 BitSecrecy n q =
     (ℓ : ℕ) → ℓ < n → (bits bits′ : List ℕ) → checked (sharingChecks n q bits) ≡ accepted tt → checked (sharingChecks n q bits′) ≡ accepted tt
     → Indistinguishable (Full q (bitWords n)) (λ words words′. (before behind out out′ : List ℕ) → n ≤ length out → n ≤ length out′
-    → AlikeBut ℓ n q (length before) bits words (converted n q bits (between before words behind) (length before) out) bits′ words′ (converted n q bits′ (between before words′ behind) (length before) out′))
+    → AlikeBut ℓ n q (length before + bitWords n) (bitShares n q bits words) (xorAll bits) (converted n q bits (between before words behind) (length before) out) (bitShares n q bits′ words′) (xorAll bits′) (converted n q bits′ (between before words′ behind) (length before) out′))

@@ -13,7 +13,7 @@ ghost use Rattle.buffers.specs.Overwrite.{overwrite};
 ghost use Rattle.buffers.specs.Positions.{at, table, after, Below};
 ghost use Rattle.checks.specs.Checks.{checked};
 ghost use Rattle.checks.specs.Answers.{checkedReading, outcome};
-ghost use Rattle.conversion.specs.Conversion.{pairs, lessTwice, xorShare, bitsAt, convert, refresh, convertBit, bitWords, bitChecks, converted};
+ghost use Rattle.conversion.specs.Conversion.{pairs, lessTwice, xorShare, bitsAt, convert, refresh, convertBit, bitWords, valueChecks, converted};
 ghost use Rattle.conversion.specs.Secrecy.{BitSecrecy};
 ghost use Rattle.conversion.specs.Arrays.{Holds, Drawn, Modulus};
 
@@ -153,33 +153,40 @@ pub fn convert_at(
     refresh(&mut first.list, n, q, words, next, row)
 }
 
-fn check_bit(n: usize, q: Word, bits: &[u16], words: &[Word], start: usize, room: usize) -> Checked
-    ensures { λ r. ⌜ checkedReading r ≡ checked (bitChecks n q (now (bits .entry)) (now (words .entry)) start room) ⌝ }
+// The checks of a call that converts the k bits of n shares, with k times n(n - 1) words from `start` on: 1; 2; 3 (q below 3); 4; 6; 8 to 10.
+pub fn check_value(
+    n: usize,
+    k: usize,
+    q: Word,
+    shares: &[u16],
+    words: &[Word],
+    start: usize,
+    room: usize,
+) -> Checked
+    ensures { λ r. ⌜ checkedReading r ≡ checked (valueChecks n k q (now (shares .entry)) (now (words .entry)) start room) ⌝ }
 {
     if !checks::within(2, 8, n) {
         return checks::refuse(checks::SHARE_COUNT, 0);
     }
+    if !checks::within(1, 16, k) {
+        return checks::refuse(checks::STRING_LENGTH, 0);
+    }
     if q < 3 {
         return checks::refuse(checks::MODULUS, 0);
     }
-    if bits.len() != n {
+    if shares.len() != n {
         return checks::refuse(checks::X_COUNT, 0);
     }
-    if let Found::At(i) = checks::first_wide(bits, 1) {
+    if let Found::At(i) = checks::first_wide(shares, k) {
         return checks::refuse(checks::X_WIDTH, i);
     }
-    if let Checked::Failed(r) = checks::check_words(words, start, 1, (n * (n - 1)) as u32, q) {
-        return Checked::Failed(r);
-    }
-    if room < n {
-        return checks::refuse(checks::OUTPUT_ROOM, 0);
-    }
-    Checked::Passed
+    checks::check_output(words, start, k as u32, (n * (n - 1)) as u32, q, n, room)
 }
 
 // Converts one shared bit to n shares modulo q, with the n(n - 1) words at `start`, and answers the position after the last of them. The words
 // around them are neither read nor judged. Output positions past n keep their content.
-// Refuses 1, 3 (q below 3), 4, 6 with the share's position, 8 (fewer than start + n(n - 1) words), 9 with the word's position, 10.
+// Refuses 1, 3 (q below 3), 4, 6 with the share's position, 8 (fewer than start + n(n - 1) words), 9 with the word's position, 10. A bit is checked
+// as a string of one, for which 2 holds.
 pub fn convert_bit(
     n: usize,
     q: Word,
@@ -191,7 +198,7 @@ pub fn convert_bit(
     ensures { λ r. ⌜ outcome r (now (out .exit)) ≡ converted n q (now (bits .entry)) (now (words .entry)) start (now (out .entry)) ⌝ }
     ensures secrecy { λ _. ⌜ BitSecrecy n q ⌝ }
 {
-    if let Checked::Failed(r) = check_bit(n, q, bits, words, start, out.len()) {
+    if let Checked::Failed(r) = check_value(n, 1, q, bits, words, start, out.len()) {
         return Answer::Refused(r);
     }
     let mut array = [0u16; 8];

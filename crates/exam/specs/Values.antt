@@ -13,7 +13,9 @@ use Rattle.checks.specs.Checks.{Verdict, accepted, refused, verdict, Outcome}
 use Rattle.masking.specs.Sharing.{xorAll, maskShares, masked, openedResidue}
 use Rattle.binomial.specs.Signed.{centred}
 use Rattle.conversion.specs.Conversion.{pairs, extend, lessTwice, xorBit, xorShare, convert, transfer, refreshShare, refreshFrom, convertBit}
-use Rattle.sampler.specs.Sampler.{Buffers, both, row, stringShare, sampleShare, sampleShares, sampled}
+use Rattle.conversion.specs.Conversion.{row}
+use Rattle.totals.specs.Sample.{stringShare, sampleShare, sampleShares}
+use Rattle.sampler.specs.Sampler.{Buffers, both, sampled}
 
 -- a call, with what its buffers hold before it
 pub data Call : Type 0 where

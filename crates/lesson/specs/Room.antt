@@ -8,7 +8,7 @@ use borrow.Author.Tests.{le-leb, lt-leb}
 use lib.ListN.{length, length-append}
 use Rattle.buffers.specs.Positions.{at}
 use Rattle.checks.specs.Laws.{Hold}
-use Rattle.sampler.specs.Sampler.{sampleWords}
+use Rattle.totals.specs.Sample.{sampleWords}
 use Rattle.sampler.specs.Accepted.{SharedPair}
 use Rattle.sampler.specs.Calls.{length-shares, shares-below}
 use Rattle.sampler.specs.Opened.{sample-le}

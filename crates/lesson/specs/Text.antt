@@ -6,7 +6,7 @@ use lib.Dec.{leb}
 use lib.IntN.{ℤ}
 use lib.ListN.{length}
 use Rattle.checks.specs.Checks.{Outcome}
-use Rattle.sampler.specs.Sampler.{sampleWords}
+use Rattle.totals.specs.Sample.{sampleWords}
 use Rattle.text.specs.Ascii.{ascii}
 use Rattle.text.specs.Text.{decimal, signed, line}
 use Rattle.lesson_file.specs.Records.{Sample}

@@ -8,7 +8,7 @@ use lib.ListN.{length}
 use Rattle.checks.specs.Checks.{Check, Verdict, accepted, refused, checked, narrow, wordChecks}
 use Rattle.masking.specs.Sharing.{xorAll}
 use Rattle.binomial.specs.Signed.{differenceOfWeights}
-use Rattle.sampler.specs.Sampler.{sampleWords, sampleShares}
+use Rattle.totals.specs.Sample.{sampleWords, sampleShares}
 use Rattle.lesson_file.specs.Records.{located, layoutRead, Sample, sampleOf}
 use Rattle.lesson_file.specs.declared.Layout.{Layout}
 

@@ -17,7 +17,7 @@ use Rattle.checks.specs.declared.Answer.{Answer}
 use Rattle.checks.specs.declared.Answer.the-variants.{Done, Refused}
 use Rattle.checks.specs.Answers.{outcome}
 use Rattle.binomial.specs.Signed.{centredValue}
-use Rattle.sampler.specs.Sampler.{sampleWords}
+use Rattle.totals.specs.Sample.{sampleWords}
 use Rattle.sampler.specs.Accepted.{SharedPair, shared-pair}
 use Rattle.sampler.specs.Calls.{length-shares, shares-below}
 use Rattle.sampler.specs.Opened.{sample-le, shares-centred}

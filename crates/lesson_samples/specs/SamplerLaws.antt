@@ -9,7 +9,8 @@ use lib.ListN.{length}
 use Rattle.buffers.specs.Overwrite.{overwrite}
 use Rattle.checks.specs.Checks.{Check, accepted, refused, verdict, settled, parameterChecks, exactly, roomChecks}
 use Rattle.checks.specs.Laws.{Hold, pass, accepted-holds, accepted-answer, passes-part, passes-behind, settled-done, settled-refused, settled-accepted, within-true}
-use Rattle.sampler.specs.Sampler.{sampleWords, sampleChecks, both, sampled}
+use Rattle.totals.specs.Sample.{sampleWords}
+use Rattle.sampler.specs.Sampler.{sampleChecks, both, sampled}
 use Rattle.checks.specs.declared.Refusal.{Refusal}
 use Rattle.checks.specs.declared.Answer.{Answer}
 use Rattle.checks.specs.declared.Answer.the-variants.{Done, Refused}

@@ -5,7 +5,7 @@ use Prim.Native.Nat.{ℕ, _≤_}
 use lib.Dec.{leb}
 use lib.ListN.{length}
 use Rattle.checks.specs.Checks.{Verdict, accepted, refused, verdict, Outcome, settled}
-use Rattle.sampler.specs.Sampler.{sampleWords}
+use Rattle.totals.specs.Sample.{sampleWords}
 use Rattle.lesson_file.specs.Records.{layoutRead, sampleOf}
 use Rattle.lesson_file.specs.declared.Layout.{Layout}
 use Rattle.lesson_samples.specs.Lesson.{valueOf, fitChecks}

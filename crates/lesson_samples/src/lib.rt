@@ -16,7 +16,7 @@ ghost use Rattle.residue.specs.Residue.{reduce, total, EachBelow};
 ghost use Rattle.checks.specs.Checks.{checked};
 ghost use Rattle.checks.specs.Answers.{checkedReading, outcome};
 ghost use Rattle.binomial.specs.Signed.{centredValue};
-ghost use Rattle.sampler.specs.Sampler.{sampleWords};
+ghost use Rattle.totals.specs.Sample.{sampleWords};
 ghost use Rattle.text.specs.Text.{Wrote};
 ghost use Rattle.lesson_file.specs.Layouts.{WholeSample};
 ghost use Rattle.lesson_samples.specs.Lesson.{recordOf};

@@ -11,7 +11,7 @@ use Rattle.buffers.specs.Positions.{at, table, Same, block}
 use Rattle.buffers.specs.PositionLaws.{table-list, front-same}
 use Rattle.buffers.specs.Rows.{rows-none, rows-next, rows-length}
 use Rattle.buffers.specs.Blocks.{length-block, block-at, part-block, put-block}
-use Rattle.sampler.specs.Sampler.{sampleShares, sampleWords}
+use Rattle.totals.specs.Sample.{sampleShares, sampleWords}
 use Rattle.sampler.specs.Calls.{shares-local}
 use Rattle.polynomial.specs.Polynomial.{coefficientShares, polynomialShares}
 use Rattle.polynomial.specs.Calls.{length-coefficient}

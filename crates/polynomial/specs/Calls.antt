@@ -13,7 +13,8 @@ use Rattle.checks.specs.Checks.{Outcome, accepted}
 use Rattle.checks.specs.Laws.{Hold}
 use Rattle.masking.specs.Sharing.{xorAll, openedResidue}
 use Rattle.binomial.specs.Signed.{differenceOfWeights, centred, weightDifference}
-use Rattle.sampler.specs.Sampler.{Buffers, both, sampleShares, sampleWords}
+use Rattle.totals.specs.Sample.{sampleShares, sampleWords}
+use Rattle.sampler.specs.Sampler.{Buffers, both}
 use Rattle.sampler.specs.Secrecy.{SharesOf}
 use Rattle.sampler.specs.Accepted.{SharedPair, shared-pair}
 use Rattle.sampler.specs.Calls.{length-shares, shares-of, shares-below}

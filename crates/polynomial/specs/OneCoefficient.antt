@@ -9,7 +9,8 @@ use Rattle.buffers.specs.Positions.{block}
 use Rattle.buffers.specs.Blocks.{block-first}
 use Rattle.checks.specs.Checks.{Check, verdict, parameterChecks, shareChecks, bufferChecks}
 use Rattle.checks.specs.Laws.{pass, same-behind}
-use Rattle.sampler.specs.Sampler.{sampleShares, sampleWords, sampleChecks, sampled}
+use Rattle.totals.specs.Sample.{sampleShares, sampleWords}
+use Rattle.sampler.specs.Sampler.{sampleChecks, sampled}
 use Rattle.sampler.specs.Calls.{shares-words, call-written}
 use Rattle.sampler.specs.Written.{written-same}
 use Rattle.polynomial.specs.Polynomial.{coefficientShares, polynomialShares, polynomialWords, coefficientCount, polynomialChecks, sampledPolynomial}

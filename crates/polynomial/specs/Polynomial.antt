@@ -4,7 +4,8 @@ use Prim.Native.Nat.{ℕ, _*_}
 use lib.ListN.{length}
 use Rattle.buffers.specs.Positions.{at, rows, block}
 use Rattle.checks.specs.Checks.{Check, Outcome, within, parameterChecks, shareChecks, bufferChecks}
-use Rattle.sampler.specs.Sampler.{sampleShares, sampleWords, Buffers, sharesWritten}
+use Rattle.totals.specs.Sample.{sampleShares, sampleWords}
+use Rattle.sampler.specs.Sampler.{Buffers, sharesWritten}
 
 -- ---- the samples
 

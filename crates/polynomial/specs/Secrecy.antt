@@ -6,7 +6,8 @@ use Prim.Native.Nat.{ℕ, _*_, _<_}
 use Rattle.buffers.specs.Positions.{block}
 use Rattle.checks.specs.Checks.{Outcome, accepted, checked}
 use Rattle.secrecy.specs.Secrecy.{Full, Indistinguishable, AgreeBut}
-use Rattle.sampler.specs.Sampler.{Buffers, sampleWords}
+use Rattle.totals.specs.Sample.{sampleWords}
+use Rattle.sampler.specs.Sampler.{Buffers}
 use Rattle.sampler.specs.Secrecy.{SharesOf, Room}
 use Rattle.polynomial.specs.Polynomial.{polynomialWords, stringsChecks, sampledPolynomial}
 

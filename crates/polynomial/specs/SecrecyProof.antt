@@ -6,7 +6,7 @@ use Rattle.conversion.specs.Arrays.{full-drawn}
 use Rattle.secrecy.specs.Secrecy.{AgreeBut}
 use Rattle.secrecy.specs.Laws.{weaken}
 use Rattle.secrecy.specs.Blocks.{blocks}
-use Rattle.sampler.specs.Sampler.{sampleShares, sampleWords}
+use Rattle.totals.specs.Sample.{sampleShares, sampleWords}
 use Rattle.sampler.specs.Accepted.{pair-large, fit-holds}
 use Rattle.sampler.specs.SecrecyProof.{shares-secrecy}
 use Rattle.polynomial.specs.Polynomial.{coefficientShares, polynomialWords, stringsChecks}

@@ -11,7 +11,8 @@ ghost use Rattle.buffers.specs.Positions.{at, Same};
 ghost use Rattle.checks.specs.Checks.{checked};
 ghost use Rattle.checks.specs.Answers.{checkedReading, outcome};
 ghost use Rattle.conversion.specs.Arrays.{Drawn, Modulus};
-ghost use Rattle.sampler.specs.Sampler.{sampleWords, both};
+ghost use Rattle.totals.specs.Sample.{sampleWords};
+ghost use Rattle.sampler.specs.Sampler.{both};
 ghost use Rattle.polynomial.specs.Polynomial.{coefficientShares, polynomialShares, polynomialWords, stringsChecks, polynomialChecks, sampledPolynomial};
 ghost use Rattle.polynomial.specs.Secrecy.{PolynomialSecrecy};
 
@@ -39,7 +40,7 @@ fn write_coefficient(
     let mut b = [0u16; 8];
     buffers::copy_eight(&mut a, &x[i..j]);
     buffers::copy_eight(&mut b, &y[i..j]);
-    sampler::write_sample(n, k, q, &a, &b, &words[..], start, &mut out[i..j], work)
+    totals::write_sample(n, k, q, &a, &b, &words[..], start, &mut out[i..j], work)
 }
 
 // The samples of all coefficients, with the words from the front of the list. Answers the position after the last word.

@@ -1,18 +1,20 @@
 -- What it means, in plain facts, that a call passes its checks.
 use mathlib.Core.Path.{_≡_}
-use mathlib.Core.List.{List, _++_}
+use mathlib.Core.List.{List, [], _∷_, _++_}
 use Prim.Native.Nat.{ℕ, _+_, _-_, _*_, _^_, _≤_, _<_}
 use native.Mathlib.Nat as N
 use native.Mathlib.Omega.{arith}
 use borrow.Author.Tests.{leb-true, le-leb, eqb-true}
 use lib.ListN.{length}
 use Rattle.residue.specs.Residue.{EachBelow}
-use Rattle.checks.specs.Checks.{Check, wordChecks, roomChecks, bufferChecks}
-use Rattle.checks.specs.Laws.{Hold, hold-front, hold-rest, hold-both, within-true, none-each-below}
+use Rattle.checks.specs.Checks.{Check, atLeast, bufferChecks}
+use Rattle.checks.specs.Laws.{Hold, hold-front, within-true, none-each-below}
 use Rattle.conversion.specs.Conversion.{bitWords}
 use Rattle.conversion.specs.Laws.{bitWords-some}
-use Rattle.conversion.specs.Arrays.{Drawn, words-drawn, drawn-words}
-use Rattle.sampler.specs.Sampler.{sampleWords, pairChecks, sampleChecks}
+use Rattle.conversion.specs.Arrays.{Drawn}
+use Rattle.conversion.specs.Accepted as output
+use Rattle.totals.specs.Sample.{sampleWords}
+use Rattle.sampler.specs.Sampler.{pairChecks, sampleChecks}
 use Rattle.sampler.specs.Secrecy.{Room}
 
 -- the numbers that the code computes are small
@@ -54,23 +56,22 @@ module _ (first : List Check) (start count q : ℕ) (words : List ℕ) (shares z
   abbrev buffers : List Check
   buffers = bufferChecks start count q words shares (length out) zeros (length work)
 
+  -- 11
+  abbrev area : List Check
+  area = atLeast 11 zeros (length work) ∷ []
+
   pub fit-first : Hold (first ++ buffers) → Hold first
   fit-first h = hold-front first buffers h
 
   pub fit-drawn : Hold (first ++ buffers) → Drawn q start count words
-  fit-drawn h = words-drawn q start count words (hold-front (wordChecks start count q words) (roomChecks shares (length out) zeros (length work)) (hold-rest first buffers h))
+  fit-drawn h = output.fit-drawn first start count q words shares (length out) area h
 
   pub fit-room : Hold (first ++ buffers) → Room shares zeros out work
-  fit-room h =
-      let r = hold-rest first buffers h in
-      (leb-true _ _ (r .1 .1 .0), leb-true _ _ (r .1 .1 .1 .0))
+  fit-room h = (output.fit-room first start count q words shares (length out) area h, leb-true _ _ (output.fit-rest first start count q words shares (length out) area h .0))
 
   -- with enough words below q, and room, it is accepted where its first checks hold
   pub fit-holds : Hold first → Drawn q start count words → Room shares zeros out work → Hold (first ++ buffers)
-  fit-holds h d r =
-      hold-both first buffers h
-      (hold-both (wordChecks start count q words) (roomChecks shares (length out) zeros (length work)) (drawn-words q start count words d)
-      (le-leb _ _ (r .0), (le-leb _ _ (r .1), tt)))
+  fit-holds h d r = output.fit-holds first start count q words shares (length out) area h d (r .0) (le-leb _ _ (r .1), tt)
 
 module _ (n k q : ℕ) (x y : List ℕ) where
   pub shared-pair : Hold (pairChecks n k q x y) → SharedPair n k q x y

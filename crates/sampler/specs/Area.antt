@@ -13,7 +13,8 @@ use lib.ListN.{length, drop}
 use Rattle.checks.specs.Checks.{Check, Outcome, Verdict, accepted, refused, verdict, checked, atLeast, wordChecks, bufferChecks}
 use Rattle.checks.specs.Laws.{Hold, hold-both, accepts, accepted-holds, refuses, refuses-alike}
 use Rattle.checks.specs.Refusals.{All, refusal-passes, refuses-before}
-use Rattle.sampler.specs.Sampler.{Buffers, sampleWords, sampleShares, pairChecks, sharesWritten, sampled}
+use Rattle.totals.specs.Sample.{sampleWords, sampleShares}
+use Rattle.sampler.specs.Sampler.{Buffers, pairChecks, sharesWritten, sampled}
 use Rattle.sampler.specs.Accepted.{SharedPair, shared-pair, fit-first, fit-drawn, fit-room, fit-holds}
 use Rattle.sampler.specs.Written.{written-answer, written-accepted}
 

@@ -16,7 +16,8 @@ use Rattle.checks.specs.Checks.{Outcome, accepted}
 use Rattle.checks.specs.Laws.{Hold}
 use Rattle.masking.specs.Sharing.{xorAll}
 use Rattle.binomial.specs.Signed.{weight, differenceOfWeights}
-use Rattle.sampler.specs.Sampler.{Buffers, both, sampleShare, sampleShares, sampleWords, pairChecks, sampleChecks, sharesWritten, sampled}
+use Rattle.totals.specs.Sample.{sampleShare, sampleShares, sampleWords}
+use Rattle.sampler.specs.Sampler.{Buffers, both, pairChecks, sampleChecks, sharesWritten, sampled}
 use Rattle.sampler.specs.Secrecy.{SharesOf, Samples}
 use Rattle.sampler.specs.Laws.{share-lt, share-local, share-sum}
 use Rattle.sampler.specs.Accepted.{SharedPair, shared-pair, pair-large, words-some, call-checks}

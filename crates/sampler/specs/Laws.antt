@@ -3,31 +3,24 @@ use mathlib.Core.Path.{_≡_, sym, ap, ap₂, _∙_}
 use mathlib.Core.List.{List}
 use Prim.Native.Nat.{ℕ, _+_, _*_, _^_, _≤_, _<_}
 use native.Mathlib.Omega.{arith}
-use lib.Arith.{digits-lt}
 use lib.ListN.{length}
 use Rattle.residue.specs.Residue.{reduce, add, neg, sub, sum, EachBelow}
 use Rattle.residue.specs.Laws.{add-lt, sub-reduce}
 use Rattle.residue.specs.Sum.{sum-cong, sum-reduce, sum-add, sum-neg, sum-swap}
-use Rattle.buffers.specs.Positions.{at, after, Same, Below}
-use Rattle.checks.specs.Width.{bit, bit-lt}
+use Rattle.buffers.specs.Positions.{at, after, Same}
+use Rattle.checks.specs.Width.{bit}
 use Rattle.masking.specs.Sharing.{xorAll}
-use Rattle.masking.specs.Xor.{xorAll-lt, bit-xorAll}
+use Rattle.masking.specs.Xor.{xorAll-lt}
 use Rattle.binomial.specs.Signed.{weight}
 use Rattle.binomial.specs.Weight.{sum-bits, weight-bits}
-use Rattle.conversion.specs.Conversion.{bitsAt, bitWords}
-use Rattle.conversion.specs.Laws.{convertBit-lt, convertBit-local, convertBit-sum}
-use Rattle.sampler.specs.Sampler.{row, stringShare, sampleShare, sampleWords}
+use Rattle.conversion.specs.Conversion.{bitWords}
+use Rattle.conversion.specs.Rows.{row-local, row-sum}
+use Rattle.conversion.specs.Conversion.{row}
+use Rattle.totals.specs.Sample.{stringShare, sampleShare, sampleWords}
 
 module _ (q n : ℕ) (large : 2 < q) where
   abbrev positive : 0 < q
   positive = omega arith
-
-  first-lt : (x : ℕ → ℕ) (t : ℕ) → bitsAt x t 0 < q
-  first-lt x t = omega (arith, bit-lt (x 0) t)
-
-  pub row-lt : (x w : ℕ → ℕ) (t : ℕ) → Below q n (row q n x w t)
-  unfolding row
-  row-lt x w t = convertBit-lt q n _ _ (first-lt x t)
 
   pub share-lt : (k : ℕ) (x y w : ℕ → ℕ) (i : ℕ) → sampleShare q n k x y w i < q
   unfolding sampleShare
@@ -36,9 +29,8 @@ module _ (q n : ℕ) (large : 2 < q) where
   -- ---- n shares of each string matter, and the words: a string reads its first k × n(n − 1), and a sample its first W
 
   stringShare-local : (k : ℕ) (x x′ w w′ : ℕ → ℕ) → Same n x x′ → Same (k * bitWords n) w w′ → Same n (stringShare q n k x w) (stringShare q n k x′ w′)
-  unfolding stringShare row
-  stringShare-local k x x′ w w′ e s i l =
-      sum-cong q k _ _ (λ t h. convertBit-local q n (bitsAt x t) (bitsAt x′ t) _ _ (first-lt x t) (first-lt x′ t) (λ j m. ap (λ (z : ℕ). bit z t) (e j m)) (λ j m. s _ (digits-lt h m)) i l)
+  unfolding stringShare
+  stringShare-local k x x′ w w′ e s i l = sum-cong q k _ _ (λ t h. row-local q n large k t x x′ w w′ h e s i l)
 
   pub share-local : (k : ℕ) (x x′ y y′ w w′ : ℕ → ℕ) → Same n x x′ → Same n y y′ → Same (sampleWords n k) w w′ → Same n (sampleShare q n k x y w) (sampleShare q n k x′ y′ w′)
   unfolding sampleShare
@@ -50,10 +42,9 @@ module _ (q n : ℕ) (large : 2 < q) where
   module _ (k : ℕ) (l : k ≤ 16) where
     -- over all shares, a string's bits sum to its weight
     string-sum : (x : List ℕ) (w : ℕ → ℕ) → length x ≡ n → EachBelow (2 ^ k) x → sum q n (stringShare q n k (at x) w) ≡ reduce q (weight (xorAll x))
-    unfolding stringShare row
+    unfolding stringShare
     string-sum x w e h =
-        sum-swap q n k (row q n (at x) w)
-        ∙ sum-cong q k _ (λ t. reduce q (bit (xorAll x) t)) (λ t m. convertBit-sum q positive n (bitsAt (at x) t) (after (t * bitWords n) w) (first-lt (at x) t) (λ i o. bit-lt (at x i) t) ∙ ap (reduce q) (sym (rw e at (bit-xorAll t x))))
+        sum-swap q n k (row q n (at x) w) ∙ sum-cong q k _ (λ t. reduce q (bit (xorAll x) t)) (λ t m. row-sum q n large x w t e)
         ∙ sum-reduce q k (bit (xorAll x)) ∙ sum-bits q k (xorAll x) ∙ ap (reduce q) (sym (weight-bits k (xorAll x) l (xorAll-lt k x h)))
 
     pub share-sum : (x y : List ℕ) (w : ℕ → ℕ) → length x ≡ n → length y ≡ n → EachBelow (2 ^ k) x → EachBelow (2 ^ k) y

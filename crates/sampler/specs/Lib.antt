@@ -1,6 +1,5 @@
 pub mod Sampler
 pub mod Secrecy
-pub mod Totals
 pub mod Laws
 pub mod Accepted
 pub mod Written

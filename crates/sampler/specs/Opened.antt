@@ -14,7 +14,8 @@ use Rattle.masking.specs.Xor.{xorAll-lt}
 use Rattle.binomial.specs.Signed.{weight, differenceOfWeights, centredValue, centred, weightChecks, weightDifference}
 use Rattle.binomial.specs.Weight.{weight-le}
 use Rattle.binomial.specs.Centring.{centred-value, centred-sample}
-use Rattle.sampler.specs.Sampler.{sampleShares, pairChecks, sampleChecks, sampled}
+use Rattle.totals.specs.Sample.{sampleShares}
+use Rattle.sampler.specs.Sampler.{pairChecks, sampleChecks, sampled}
 use Rattle.sampler.specs.Secrecy.{SharesOf}
 use Rattle.sampler.specs.Accepted.{SharedPair, pair-large, shared-pair, call-checks}
 use Rattle.sampler.specs.Calls.{length-shares, shares-below, shares-residue, call-samples}

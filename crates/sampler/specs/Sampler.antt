@@ -1,37 +1,10 @@
--- The masked binomial sampler (document 01: 'The sample', 'Questions put to a call'; source 003, Algorithm 10).
--- Shares and words are functions of the position. Shares are counted from 0 here, from 1 on the page.
+-- The call of the masked binomial sampler (document 01, 'Questions put to a call').
 use mathlib.Core.List.{List, _++_}
-use Prim.Native.Nat.{ℕ, _+_, _*_}
+use Prim.Native.Nat.{ℕ, _+_}
 use lib.ListN.{length, drop, replicate}
-use Rattle.residue.specs.Residue.{sub, sum}
 use Rattle.buffers.specs.Overwrite.{overwrite}
-use Rattle.buffers.specs.Positions.{at, table, after}
 use Rattle.checks.specs.Checks.{Check, Outcome, verdict, settled, parameterChecks, shareChecks, bufferChecks}
-use Rattle.conversion.specs.Conversion.{convertBit, bitsAt, bitWords}
-
--- ---- the sample
-
-module _ (q n : ℕ) where
-  -- The n shares of bit t of a string, whose bits take the words w from bit 0 on, each the next n(n − 1).
-  unfoldable pub row : (ℕ → ℕ) → (ℕ → ℕ) → ℕ → ℕ → ℕ
-  row x w t = convertBit q n (bitsAt x t) (after (t * bitWords n) w)
-
-  -- share i, summed over the k bits of a string
-  unfoldable pub stringShare : ℕ → (ℕ → ℕ) → (ℕ → ℕ) → ℕ → ℕ
-  stringShare k x w i = sum q k (λ t. row x w t i)
-
-  -- Output share i: its sum over the x bits, which take their words first, less its sum over the y bits.
-  unfoldable pub sampleShare : ℕ → (ℕ → ℕ) → (ℕ → ℕ) → (ℕ → ℕ) → ℕ → ℕ
-  sampleShare k x y w i = sub q (stringShare k x w i) (stringShare k y (after (k * bitWords n) w) i)
-
-unfoldable pub sampleShares : ℕ → ℕ → ℕ → List ℕ → List ℕ → List ℕ → List ℕ
-sampleShares n k q x y words = table n (sampleShare q n k (at x) (at y) (at words))
-
--- ---- the call
-
--- W: how many words a sample takes
-abbrev pub sampleWords : ℕ → ℕ → ℕ
-sampleWords n k = 2 * k * bitWords n
+use Rattle.totals.specs.Sample.{sampleShares, sampleWords}
 
 -- The checks of the two shared strings, 1 to 7: what passes them is the page's 'accepted pair'.
 abbrev pub pairChecks : ℕ → ℕ → ℕ → List ℕ → List ℕ → List Check

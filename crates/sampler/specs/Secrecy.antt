@@ -9,7 +9,8 @@ use Rattle.checks.specs.Checks.{Outcome, accepted, checked}
 use Rattle.masking.specs.Sharing.{xorAll}
 use Rattle.binomial.specs.Signed.{differenceOfWeights}
 use Rattle.secrecy.specs.Secrecy.{Full, between, Indistinguishable, AgreeBut}
-use Rattle.sampler.specs.Sampler.{Buffers, sampleWords, sampleShares, pairChecks, sampled}
+use Rattle.totals.specs.Sample.{sampleWords, sampleShares}
+use Rattle.sampler.specs.Sampler.{Buffers, pairChecks, sampled}
 
 -- The n shares are those of the written steps; their residue is the weight of x less the weight of y, modulo q.
 pub record SharesOf (n k q : ℕ) (x y words shares : List ℕ) : Type 0 where

@@ -13,7 +13,8 @@ use Rattle.secrecy.specs.Translation.{indistinguishable}
 use Rattle.conversion.specs.Conversion.{bitWords}
 use Rattle.conversion.specs.Arrays.{between-drawn}
 use Rattle.conversion.specs.Translation.{refreshWords}
-use Rattle.sampler.specs.Sampler.{sampleShare, sampleShares, sampleWords, pairChecks, sampled}
+use Rattle.totals.specs.Sample.{sampleShare, sampleShares, sampleWords}
+use Rattle.sampler.specs.Sampler.{pairChecks, sampled}
 use Rattle.sampler.specs.Secrecy.{Samples, Room, Secrecy}
 use Rattle.sampler.specs.Accepted.{pair-large, shared-pair, fit-holds}
 use Rattle.sampler.specs.Calls.{shares-at, call-samples}

@@ -8,7 +8,7 @@ use borrow.Author.Needs.{needs}
 use Rattle.buffers.specs.Overwrite.{overwrite}
 use Rattle.buffers.specs.Blocks.{block-fits}
 use Rattle.conversion.specs.Arrays.{drawn-part}
-use Rattle.sampler.specs.Sampler.{sampleWords}
+use Rattle.totals.specs.Sample.{sampleWords}
 use Rattle.polynomial.specs.Polynomial.{polynomialShares, polynomialWords}
 use Rattle.polynomial.proofs.Steps.{coefficients-none, coefficients-next, coefficients-length}
 use Rattle.polynomial.proofs.write_coefficients.Statement.{statement}

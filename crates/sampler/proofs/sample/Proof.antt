@@ -10,7 +10,8 @@ use Rattle.buffers.specs.Positions.{at}
 use Rattle.buffers.specs.PositionLaws.{front-same, front-zeros}
 use Rattle.conversion.specs.Arrays.{Drawn}
 use Rattle.checks.specs.Laws.{Hold, checks-hold, settles-accepted, settles-refused}
-use Rattle.sampler.specs.Sampler.{sampleWords, sampleShares, pairChecks, sampleChecks, both, sampled}
+use Rattle.totals.specs.Sample.{sampleWords, sampleShares}
+use Rattle.sampler.specs.Sampler.{pairChecks, sampleChecks, both, sampled}
 use Rattle.sampler.specs.Secrecy.{Room}
 use Rattle.sampler.specs.Accepted.{SharedPair, shared-pair, pair-large, fit-drawn, fit-room, call-checks}
 use Rattle.sampler.specs.Calls.{shares-local}

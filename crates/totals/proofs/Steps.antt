@@ -3,30 +3,14 @@ use mathlib.Core.Path.{_≡_, refl, sym, ap, ap₂, _∙_}
 use mathlib.Core.Bool.{Bool, true, false}
 use mathlib.Core.List.{List}
 use Prim.Native.Nat.{ℕ, _+_, _*_, _≤_, _<_}
-use native.Mathlib.Nat.{le-of-eq}
-use native.Mathlib.Omega.{arith}
 use lib.ListN.{length, drop}
 use Rattle.buffers.specs.Overwrite.{overwrite}
-use Rattle.buffers.specs.Laws.{front-over}
 use Rattle.buffers.specs.Positions.{at, table, after, Same, Below}
-use Rattle.buffers.specs.PositionLaws.{after-at, drop-after, length-table, table-same, front-at, front-length, front-values}
-use Rattle.checks.specs.Width.{bit-lt}
-use Rattle.conversion.specs.Conversion.{convertBit, bitsAt, bitWords}
-use Rattle.conversion.specs.Laws.{convertBit-local}
-use Rattle.sampler.specs.Sampler.{row, stringShare, sampleShare, sampleShares}
-use Rattle.sampler.specs.Totals.{signedSum, signed-lt, signed-none, signed-next, signed-share}
-
--- a bit's row, of the bits of a turn and of words that begin at p
-pub row-from : (n q t start p : ℕ) (x b v : ℕ → ℕ) (before r : List ℕ) → 2 < q → 1 ≤ n → Same n b (bitsAt x t) → p ≡ start + t * bitWords n → r ≡ overwrite before 0 (table n (convertBit q n b (after p v))) → Same n (at r) (row q n x (after start v) t)
-unfolding row
-row-from n q t start p x b v before r large one same e d i h =
-    let l = bit-lt (x 0) t in
-    ap (λ (l : List ℕ). at l i) d ∙ front-at before n _ i h
-    ∙ convertBit-local q n b (bitsAt x t) (after p v) (after (t * bitWords n) (after start v)) (rw (same 0 one) (omega arith)) (omega arith) same (λ j k. ap (λ (w : ℕ → ℕ). w j) (after-at start (t * bitWords n) p v e)) i h
-
--- a list written over another that was written over l, each with n values in front
-again : (n : ℕ) (f g : ℕ → ℕ) (l m u : List ℕ) → m ≡ overwrite l 0 (table n f) → u ≡ overwrite m 0 (table n g) → u ≡ overwrite l 0 (table n g)
-again n f g l m u e d = d ∙ ap (λ (k : List ℕ). overwrite k 0 (table n g)) e ∙ front-over l _ _ (le-of-eq (length-table n f ∙ sym (length-table n g)))
+use Rattle.buffers.specs.PositionLaws.{after-at, drop-after, table-same, front-at, front-length, front-values, front-twice}
+use Rattle.conversion.specs.Conversion.{bitWords}
+use Rattle.conversion.specs.Conversion.{row}
+use Rattle.totals.specs.Sample.{stringShare, sampleShare, sampleShares}
+use Rattle.totals.specs.Totals.{signedSum, signed-lt, signed-none, signed-next, signed-share}
 
 -- the totals after t bits of a string, which were those of l before
 abbrev pub totalsOf : ℕ → ℕ → Bool → (ℕ → ℕ) → (ℕ → ℕ) → List ℕ → ℕ → ℕ → ℕ
@@ -53,7 +37,7 @@ module _ (n q : ℕ) (pos : 0 < q) (negative : Bool) (x w : ℕ → ℕ) (l : Li
     pub totals-next : (u r : List ℕ) → Same n (at r) (row q n x w t) → u ≡ overwrite m 0 (table n (λ i. signedSum q negative (at m i) (at r i))) → u ≡ overwrite l 0 (table n (totals (t + 1)))
     unfolding stringShare
     totals-next u r s d =
-        again n (totals t) (λ i. signedSum q negative (at m i) (at r i)) l m u e d
+        front-twice n (totals t) (λ i. signedSum q negative (at m i) (at r i)) l m u e d
         ∙ ap (overwrite l 0) (table-same n _ _ (λ i h. ap₂ (signedSum q negative) (totals-at i h) (s i h) ∙ signed-next q pos negative (at l i) t (λ t. row q n x w t i)))
 
 -- the totals of both strings, whose words begin at `start` and at `half`, from zeros on: the shares
@@ -79,4 +63,4 @@ totals-shares n k q start half x y words work first second pos z e h d =
 pub totals-cleared : (n : ℕ) (f g : ℕ → ℕ) (work first second u : List ℕ) → n ≤ length work → Same n (at work) (λ i. 0)
     → first ≡ overwrite work 0 (table n f) → second ≡ overwrite first 0 (table n g) → u ≡ overwrite second 0 (table n (λ i. 0)) → u ≡ work
 totals-cleared n f g work first second u h z e d c =
-    again n g (λ i. 0) work second u (again n f g work first second e d) c ∙ sym (front-values work n (λ i. 0) work h refl z (λ i k. refl))
+    front-twice n g (λ i. 0) work second u (front-twice n f g work first second e d) c ∙ sym (front-values work n (λ i. 0) work h refl z (λ i k. refl))

@@ -8,9 +8,9 @@ use Rattle.buffers.specs.Overwrite.{overwrite}
 use Rattle.buffers.specs.Positions.{at, after}
 use Rattle.conversion.specs.Conversion.{bitWords}
 use Rattle.conversion.specs.Arrays.{drawn-part}
-use Rattle.sampler.proofs.Steps.{totals-below, totals-shares, totals-cleared}
-use Rattle.sampler.proofs.write_sample.Statement.{statement}
-use Rattle.sampler.proofs.write_sample.Tie as tie
+use Rattle.totals.proofs.Steps.{totals-below, totals-shares, totals-cleared}
+use Rattle.totals.proofs.write_sample.Statement.{statement}
+use Rattle.totals.proofs.write_sample.Tie as tie
 
 -- the places where the call begins, where the rows of x are in the totals, and where those of y are
 abbrev start : tie.After-add-string → tie.Start

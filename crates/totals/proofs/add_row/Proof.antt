@@ -13,9 +13,9 @@ use Rattle.buffers.specs.Overwrite.{overwrite}
 use Rattle.buffers.specs.Positions.{at, table}
 use Rattle.buffers.specs.PositionLaws.{front-behind}
 use Rattle.buffers.specs.Rows.{values-none, values-next, values-all}
-use Rattle.sampler.specs.Totals.{signedSum, signed-lt}
-use Rattle.sampler.proofs.add_row.Statement.{statement}
-use Rattle.sampler.proofs.add_row.Tie as tie
+use Rattle.totals.specs.Totals.{signedSum, signed-lt}
+use Rattle.totals.proofs.add_row.Statement.{statement}
+use Rattle.totals.proofs.add_row.Tie as tie
 
 abbrev Inv-loop : tie.InvT-loop
 Inv-loop row n q negative work₀ modulus i₀ work i =

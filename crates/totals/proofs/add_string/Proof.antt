@@ -11,11 +11,11 @@ use Rattle.buffers.specs.Blocks.{block-fits}
 use Rattle.checks.specs.Width.{bit-lt}
 use Rattle.conversion.specs.Conversion.{bitsAt, bitWords}
 use Rattle.conversion.specs.Arrays.{drawn-part}
-use Rattle.sampler.specs.Sampler.{row}
-use Rattle.sampler.specs.Laws.{row-lt}
-use Rattle.sampler.proofs.Steps.{row-from, totalsOf, totals-none, totals-below, totals-length, totals-next}
-use Rattle.sampler.proofs.add_string.Statement.{statement}
-use Rattle.sampler.proofs.add_string.Tie as tie
+use Rattle.conversion.specs.Conversion.{row}
+use Rattle.conversion.specs.Rows.{row-lt, row-from}
+use Rattle.totals.proofs.Steps.{totalsOf, totals-none, totals-below, totals-length, totals-next}
+use Rattle.totals.proofs.add_string.Statement.{statement}
+use Rattle.totals.proofs.add_string.Tie as tie
 
 abbrev Inv-loop : tie.InvT-loop
 Inv-loop shares n k q words start negative work₀ p₀ row₀ bit₀ work p row bit =
@@ -51,7 +51,7 @@ made : (c : tie.After-convert-at Inv-loop μ-loop) → let s = start (turn c .be
 made c =
     let t = turn c .before in
     let s = start t in
-    row-from _ _ (t .loop .bit) (s .args .start) _ _ _ (at (s .args .words .now)) _ _ (s .pre .3 .large) (omega (arith, s .pre .0)) (bits (c .before .before .before)) (t .loop .inv .1) (c .convert-at .ensures .0)
+    row-from _ _ (s .pre .3 .large) (t .loop .bit) (s .args .start) _ _ _ (at (s .args .words .now)) _ _ (omega (arith, s .pre .0)) (bits (c .before .before .before)) (t .loop .inv .1) (c .convert-at .ensures .0)
 
 loop-holds : tie.Need-loop-holds Inv-loop μ-loop
 loop-holds c =

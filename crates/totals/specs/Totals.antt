@@ -8,7 +8,7 @@ use Rattle.residue.specs.Laws.{reduce-small, add-assoc, zero-add, add-zero, add
 use Rattle.residue.specs.Sum.{reduce-sum, sum-last}
 use Rattle.buffers.specs.Positions.{after}
 use Rattle.conversion.specs.Conversion.{bitWords}
-use Rattle.sampler.specs.Sampler.{stringShare, sampleShare}
+use Rattle.totals.specs.Sample.{stringShare, sampleShare}
 
 -- a added to the total or, where the string counts as negative, taken off
 abbrev pub signedSum : ℕ → Bool → ℕ → ℕ → ℕ

@@ -10,8 +10,8 @@ use Rattle.buffers.specs.Overwrite.{overwrite}
 use Rattle.buffers.specs.Positions.{at, table}
 use Rattle.buffers.specs.PositionLaws.{front-behind}
 use Rattle.buffers.specs.Rows.{values-none, values-next, values-all}
-use Rattle.sampler.proofs.move_totals.Statement.{statement}
-use Rattle.sampler.proofs.move_totals.Tie as tie
+use Rattle.totals.proofs.move_totals.Statement.{statement}
+use Rattle.totals.proofs.move_totals.Tie as tie
 
 abbrev Inv-loop : tie.InvT-loop
 Inv-loop work₀ n out₀ i₀ work out i =

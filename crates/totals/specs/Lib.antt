@@ -1,0 +1,2 @@
+pub mod Sample
+pub mod Totals
