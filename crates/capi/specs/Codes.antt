@@ -12,7 +12,8 @@ use Rattle.checks.specs.Refusals.{All, refusal-passes}
 use Rattle.masking.specs.Sharing.{maskChecks, masked, openStringChecks, openedString, openResidueChecks, openedResidue}
 use Rattle.binomial.specs.Signed.{centreChecks, centred, weightChecks, weightDifference}
 use Rattle.binomial.specs.Sets.{setChecks, parameterSet}
-use Rattle.conversion.specs.Conversion.{bitChecks, converted}
+use Rattle.conversion.specs.Conversion.{bitChecks, valueChecks, converted}
+use Rattle.values.specs.Values.{valued}
 use Rattle.sampler.specs.Sampler.{sampleChecks, sampled}
 use Rattle.polynomial.specs.Polynomial.{polynomialChecks, sampledPolynomial}
 use Rattle.noise.specs.Split.{noiseChecks, noiseSplit}
@@ -55,6 +56,10 @@ module _ (code position : ℕ) where
   pub convert-bit-code : (n q : ℕ) (bits words : List ℕ) (start : ℕ) (out : List ℕ) → converted n q bits words start out .answer ≡ refused code position → 0 < code
   unfolding converted
   convert-bit-code n q bits words start out e = numbered _ (bitChecks n q bits words start (length out)) refl (sym (settled-answer _ _ _) ∙ e)
+
+  pub convert-value-code : (n k q : ℕ) (shares words out : List ℕ) → valued n k q shares words out .answer ≡ refused code position → 0 < code
+  unfolding valued
+  convert-value-code n k q shares words out e = numbered _ (valueChecks n k q shares words 0 (length out)) refl (sym (settled-answer _ _ _) ∙ e)
 
   pub sample-code : (n k q : ℕ) (x y words : List ℕ) (start : ℕ) (out work : List ℕ) → sampled n k q x y words start out work .answer ≡ refused code position → 0 < code
   unfolding sampled

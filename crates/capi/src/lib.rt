@@ -15,6 +15,8 @@ ghost use Rattle.binomial.specs.Signed.{centred, weightDifference};
 ghost use Rattle.binomial.specs.Sets.{parameterSet};
 ghost use Rattle.conversion.specs.Conversion.{converted};
 ghost use Rattle.conversion.specs.Secrecy.{BitSecrecy};
+ghost use Rattle.values.specs.Values.{valued};
+ghost use Rattle.values.specs.Secrecy.{ValueSecrecy};
 ghost use Rattle.sampler.specs.Sampler.{both, sampled};
 ghost use Rattle.sampler.specs.Secrecy.{Secrecy};
 ghost use Rattle.polynomial.specs.Polynomial.{sampledPolynomial};
@@ -194,6 +196,21 @@ pub extern "C" fn tp_convert_bit(
     ensures secrecy { λ _. ⌜ BitSecrecy n q ⌝ }
 {
     answer(conversion::convert_bit(n, q, bits, words, start, out))
+}
+
+#[no_mangle]
+pub extern "C" fn tp_convert_value(
+    n: usize,
+    k: usize,
+    q: Word,
+    shares: &[u16],
+    words: &[Word],
+    out: &mut [Word],
+) -> TpAnswer
+    ensures { λ r. ⌜ returned r (now (out .exit)) ≡ answered (valued n k q (now (shares .entry)) (now (words .entry)) (now (out .entry))) ⌝ }
+    ensures secrecy { λ _. ⌜ ValueSecrecy n k q ⌝ }
+{
+    answer(values::convert_value(n, k, q, shares, words, out))
 }
 
 // `&words[..]`: docs/DECISIONS.md, 'A slice is handed on by its parts'.
