@@ -6,6 +6,7 @@ use crate::lesson::{lesson, MOST_BYTES, MOST_WORDS};
 use crate::noise::split;
 use crate::show::{difference, hex};
 use crate::text::Text;
+use crate::value::convert_value;
 
 #[derive(Clone, Copy, Debug, PartialEq, Eq, PartialOrd, Ord)]
 pub enum Function {
@@ -16,6 +17,7 @@ pub enum Function {
     WeightDifference,
     ParameterSet,
     ConvertBit,
+    ConvertValue,
     Sample,
     SamplePolynomial,
     SplitNoise,
@@ -23,7 +25,7 @@ pub enum Function {
     ReportText,
 }
 
-pub const FUNCTIONS: [Function; 12] = [
+pub const FUNCTIONS: [Function; 13] = [
     Function::Mask,
     Function::OpenString,
     Function::OpenResidue,
@@ -31,6 +33,7 @@ pub const FUNCTIONS: [Function; 12] = [
     Function::WeightDifference,
     Function::ParameterSet,
     Function::ConvertBit,
+    Function::ConvertValue,
     Function::Sample,
     Function::SamplePolynomial,
     Function::SplitNoise,
@@ -68,6 +71,10 @@ impl Function {
             Function::ConvertBit => {
                 let refusals = &[(1, 0), (3, 0), (4, 0), (6, 7), (8, 0), (9, 55), (10, 0)];
                 form("tp_convert_bit", &["n", "q", "start"], &["bits", "words", "out"], refusals)
+            }
+            Function::ConvertValue => {
+                let refusals = &[(1, 0), (2, 0), (3, 0), (4, 0), (6, 7), (8, 0), (9, 895), (10, 0)];
+                form("tp_convert_value", &["n", "k", "q"], &["shares", "words", "out"], refusals)
             }
             Function::Sample => {
                 let refusals = &[(1, 0), (2, 0), (3, 0), (4, 0), (5, 0), (6, 7), (7, 7), (8, 0), (9, 1_791), (10, 0), (11, 0)];
@@ -196,6 +203,7 @@ impl Call {
             (Function::WeightDifference, &[k, x, y], []) => judged(weight_difference(k, x, y), |value| (0, value)),
             (Function::ParameterSet, &[number], []) => judged(parameter_set(number), |(k, q)| (k, q as i64)),
             (Function::ConvertBit, &[n, q, start], [bits, words, out]) => counted(convert_bit(n, q, bits, words, start, out)),
+            (Function::ConvertValue, &[n, k, q], [shares, words, out]) => counted(convert_value([n, k, q], shares, words, out)),
             (Function::Sample, &[n, k, q, start], [x, y, words, out, work]) => counted(sample([n, k, q], [x, y], words, start, out, work)),
             (Function::SamplePolynomial, &[n, k, q, m], [x, y, words, out, work]) => counted(coefficients([n, k, q, m], [x, y], words, 0, out, work)),
             (Function::SplitNoise, &[n, set], [bytes, x, y]) => counted(split(n, set, bytes, x, y)),

@@ -13,14 +13,14 @@ pub fn ask(holds: bool, number: u64, place: usize) -> Verdict<()> {
 }
 
 /// Every element passes, or the place of the first that does not.
-fn ask_all(list: &[u64], number: u64, passes: impl Fn(u64) -> bool) -> Verdict<()> {
+pub fn ask_all(list: &[u64], number: u64, passes: impl Fn(u64) -> bool) -> Verdict<()> {
     match list.iter().position(|x| !passes(*x)) {
         None => Ok(()),
         Some(place) => Err((number, place)),
     }
 }
 
-fn has_bits_at_or_above(word: u64, k: u64) -> bool {
+pub fn has_bits_at_or_above(word: u64, k: u64) -> bool {
     (k..64).any(|i| word >> i & 1 == 1)
 }
 
@@ -69,7 +69,7 @@ fn refresh(q: u64, list: &mut [u64], words: &[u64]) {
 }
 
 /// Questions 8 and 9: from the starting place on there are so many words, and each is below q. Answers the words.
-fn ask_words(words: &[u64], start: u64, count: u64, q: u64) -> Verdict<&[u64]> {
+pub fn ask_words(words: &[u64], start: u64, count: u64, q: u64) -> Verdict<&[u64]> {
     let end = start as u128 + count as u128;
     ask(words.len() as u128 >= end, 8, 0)?;
     let taken = &words[start as usize..end as usize];
@@ -78,7 +78,7 @@ fn ask_words(words: &[u64], start: u64, count: u64, q: u64) -> Verdict<&[u64]> {
 }
 
 /// Steps 1, 2 and 3: the n numbers of a shared bit, with its n(n − 1) words.
-fn numbers_of_bit(q: u64, bits: &[u64], words: &[u64]) -> Vec<u64> {
+pub fn numbers_of_bit(q: u64, bits: &[u64], words: &[u64]) -> Vec<u64> {
     let mut list = vec![bits[0]];
     let mut rest = words;
     for b in &bits[1..] {

@@ -8,6 +8,7 @@ use crate::noise;
 use crate::splits;
 use crate::start;
 use crate::text::Text;
+use crate::values;
 use crate::work;
 use std::ops::Range;
 use Fault::*;
@@ -87,6 +88,18 @@ fn lesson_lists(dice: &mut Dice, seed: u64, turn: usize, text: Text) -> (Vec<Vec
     (vec![file.into_iter().map(u64::from).collect(), words_room(dice, MOST_WORDS), room(dice, needed[2], 40, 256)], needed)
 }
 
+/// The numbers and lists of a call, and how many elements of each list are needed.
+pub type Drawn = (Vec<u64>, Vec<Vec<u64>>, Vec<u64>);
+
+/// A sample, or a polynomial of m coefficients.
+fn coefficients(dice: &mut Dice, function: Function, [n, k, q, m]: [u64; 4]) -> Drawn {
+    let needed = vec![m * n, m * n, m * words_needed(n, k), m * n, n];
+    let [x, y] = [(); 2].map(|()| (0..m).flat_map(|_| shares(dice, n, k)).collect());
+    let start = if function == Function::Sample { start::fitting(dice, needed[2]) } else { 0 };
+    let lists = vec![x, y, words_lent(dice, q, start, needed[2]), words_room(dice, needed[3]), work::fitting(dice, n, k)];
+    (vec![n, k, q, if function == Function::Sample { start } else { m }], lists, needed)
+}
+
 /// A good call. If n and k are unfit, nothing else is.
 pub fn good(dice: &mut Dice, seed: u64, turn: usize, function: Function, [n, k, m]: [u64; 3]) -> Draft {
     let q = modulus(dice, if samples(function) { k } else { 1 });
@@ -105,13 +118,8 @@ pub fn good(dice: &mut Dice, seed: u64, turn: usize, function: Function, [n, k, 
             let lists = vec![shares(dice, n, 1), words_lent(dice, q, start, needed), words_room(dice, n)];
             (vec![n, q, start], lists, vec![n, needed, n])
         }
-        Function::Sample | Function::SamplePolynomial => {
-            let needed = vec![m * n, m * n, m * words_needed(n, k), m * n, n];
-            let [x, y] = [(); 2].map(|()| (0..m).flat_map(|_| shares(dice, n, k)).collect());
-            let start = if function == Function::Sample { start::fitting(dice, needed[2]) } else { 0 };
-            let lists = vec![x, y, words_lent(dice, q, start, needed[2]), words_room(dice, needed[3]), work::fitting(dice, n, k)];
-            (vec![n, k, q, if function == Function::Sample { start } else { m }], lists, needed)
-        }
+        Function::ConvertValue => values::drawn(dice, n, k),
+        Function::Sample | Function::SamplePolynomial => coefficients(dice, function, [n, k, q, m]),
         // Set 1 has k 2, set 2 has k 3.
         Function::SplitNoise => {
             let needed = vec![splits::fitting_length(n, k), m * n, m * n];
@@ -125,7 +133,7 @@ pub fn good(dice: &mut Dice, seed: u64, turn: usize, function: Function, [n, k, 
     };
     let k = if function == Function::ConvertBit { 1 } else { k };
     let call = Call { function, numbers, lists };
-    let start = call.number("start").unwrap_or(0);
+    let (q, start) = (call.number("q").unwrap_or(q), call.number("start").unwrap_or(0));
     Draft { call, n, k, q, m, start, needed: needed.into_iter().map(|count| count as usize).collect() }
 }
 
@@ -161,11 +169,11 @@ impl Draft {
             self.set(name, change(dice, number));
             return;
         }
-        let (list, needed) = self.list(name);
+        let (n, by_bits, (list, needed)) = (self.n, self.call.function == Function::ConvertValue && name == "words", self.list(name));
         let judged = needed.start..list.len().min(needed.end);
         let places = if judged.is_empty() { 0 } else { dice.between(1, 2) };
         for _ in 0..places {
-            let place = judged.start + place(dice, judged.len());
+            let place = judged.start + if by_bits { values::word_place(dice, n, judged.len()) } else { place(dice, judged.len()) };
             list[place] = change(dice, list[place]);
         }
     }
@@ -178,19 +186,36 @@ impl Draft {
 
     /// A list that must have an exact length gets another.
     fn change_length(&mut self, dice: &mut Dice, name: &str) {
-        let (n, k, (list, Range { end, .. })) = (self.n, self.k, self.list(name));
+        let (function, n, k, (list, Range { end, .. })) = (self.call.function, self.n, self.k, self.list(name));
         let (any, element) = (dice.between(end as u64 + 1, end as u64 + 20) as usize, list.first().copied().unwrap_or(0));
-        let len = if name == "bytes" { splits::unfit_length(dice, n, k) as usize } else { dice.pick(&[end.saturating_sub(1), end + 1, 0, any]) };
+        let len = match function {
+            Function::SplitNoise => splits::unfit_length(dice, n, k) as usize,
+            Function::ConvertValue => values::unfit_length(dice, n) as usize,
+            _ => dice.pick(&[end.saturating_sub(1), end + 1, 0, any]),
+        };
         list.resize(len, element);
     }
 
-    /// Noise with an unfit n. Where all sizes are 0 or wrap to it, mostly with empty lists.
-    fn spoil_shares_of_noise(&mut self, dice: &mut Dice) {
-        let n = splits::unfit_shares(dice, self.n);
+    /// An unfit n. Where all sizes of noise are 0 or wrap to it, mostly with empty lists.
+    fn spoil_shares(&mut self, dice: &mut Dice) {
+        let (function, n) = (self.call.function, self.n);
+        let n = match function {
+            Function::SplitNoise => splits::unfit_shares(dice, n),
+            Function::ConvertValue => values::unfit_shares(dice, n),
+            _ => dice.pick(&[0, 1, 9, 10, 255, 258, 65_538, 1 << 32 | 2, 1 << 63 | 2, u64::MAX - 1, u64::MAX]),
+        };
         self.set("n", n);
-        if n % (1 << 58) == 0 && !dice.one_in(3) {
+        if function == Function::SplitNoise && n % (1 << 58) == 0 && !dice.one_in(3) {
             self.call.lists.iter_mut().for_each(Vec::clear);
         }
+    }
+
+    fn spoil_bits(&mut self, dice: &mut Dice) {
+        let k = match self.call.function {
+            Function::ConvertValue => values::unfit_bits(dice, self.k),
+            _ => dice.pick(&[0, 17, 18, 32, 64, 65, 257, 65_537, 1 << 32 | 1, 1 << 63 | 1, u64::MAX - 1, u64::MAX]),
+        };
+        self.set("k", k);
     }
 
     /// A set that is not for noise, at times with as many bytes as its k asks for.
@@ -208,13 +233,8 @@ impl Draft {
         let (k, q, m) = (self.k, self.q, self.m);
         let noise = self.call.function == Function::SplitNoise;
         match fault {
-            N if noise && (2..=8).contains(&self.n) => self.spoil_shares_of_noise(dice),
-            N if (2..=8).contains(&self.n) => {
-                self.set("n", dice.pick(&[0, 1, 9, 10, 255, 258, 65_538, 1 << 32 | 2, 1 << 63 | 2, u64::MAX - 1, u64::MAX]))
-            }
-            K if (1..=16).contains(&k) => {
-                self.set("k", dice.pick(&[0, 17, 18, 32, 64, 65, 257, 65_537, 1 << 32 | 1, 1 << 63 | 1, u64::MAX - 1, u64::MAX]))
-            }
+            N if (2..=8).contains(&self.n) => self.spoil_shares(dice),
+            K if (1..=16).contains(&k) => self.spoil_bits(dice),
             // The call was made with an unfit n or k.
             N | K => (),
             Q => {

@@ -112,6 +112,10 @@ impl Call {
                     let [bits, words, out] = [bits, words, out].map(|list| (list.start(), list.len()));
                     tp_convert_bit(n as usize, q as u16, bits.0, bits.1, words.0, words.1, start as usize, out.0, out.1).into()
                 }
+                (Function::ConvertValue, &[n, k, q], [shares, words, out]) => {
+                    let [shares, words, out] = [shares, words, out].map(|list| (list.start(), list.len()));
+                    tp_convert_value(n as usize, k as usize, q as u16, shares.0, shares.1, words.0, words.1, out.0, out.1).into()
+                }
                 (Function::Sample | Function::SamplePolynomial, &[n, k, q, start_or_m], [x, y, words, out, work]) => {
                     let [x, y, words, out, work] = [x, y, words, out, work].map(|list| (list.start(), list.len()));
                     let (n, k, q, start_or_m) = (n as usize, k as usize, q as u16, start_or_m as usize);
@@ -144,6 +148,9 @@ impl Call {
             }
             (Function::ConvertBit, &[n, q, start], [bits, words, out]) => {
                 count(tinplateau::convert_bit(n as usize, q as u16, bits.list(), words.list(), start as usize, out.list_mut()))
+            }
+            (Function::ConvertValue, &[n, k, q], [shares, words, out]) => {
+                count(tinplateau::convert_value(n as usize, k as usize, q as u16, shares.list(), words.list(), out.list_mut()))
             }
             (Function::Sample, &[n, k, q, start], [x, y, words, out, work]) => {
                 let (n, k, q, start) = (n as usize, k as usize, q as u16, start as usize);

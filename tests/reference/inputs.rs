@@ -5,7 +5,7 @@ use crate::draft::{self, Fault, Fault::*};
 use crate::draw::Dice;
 
 /// The functions, how many calls of each in a round, and their faults in the order of the checks.
-const KINDS: [(Function, usize, &[Fault]); 12] = [
+const KINDS: [(Function, usize, &[Fault]); 13] = [
     (Function::Mask, 12, &[N, K, Wide("value"), Length("masks"), Wide("masks"), Short("out")]),
     (Function::OpenString, 8, &[N, K, Length("shares"), Wide("shares")]),
     (Function::OpenResidue, 8, &[N, Q, Length("shares"), High("shares")]),
@@ -13,6 +13,7 @@ const KINDS: [(Function, usize, &[Fault]); 12] = [
     (Function::WeightDifference, 5, &[K, Wide("x"), Wide("y")]),
     (Function::ParameterSet, 2, &[Set]),
     (Function::ConvertBit, 15, &[N, Q, Length("bits"), Wide("bits"), Short("words"), Start, High("words"), Short("out")]),
+    (Function::ConvertValue, 8, &[N, K, Q, Length("shares"), Wide("shares"), Short("words"), High("words"), Short("out")]),
     (
         Function::Sample,
         40,
@@ -67,7 +68,8 @@ fn coefficients(dice: &mut Dice) -> u64 {
     }
 }
 
-/// n, k and m. Only the largest polynomial has the last place of a share or word. Noise has the k of set 1 or 2.
+/// n, k and m. Only the largest polynomial has the last place of a share or word, and only the largest value that of a word. Noise has the k of
+/// set 1 or 2.
 fn size(dice: &mut Dice, function: Function, turn: usize, faults: &[Fault]) -> [u64; 3] {
     let (n, k) = if dice.one_in(6) { dice.pick(&[(2, 1), (8, 1), (2, 16), (8, 16)]) } else { (dice.between(2, 8), dice.between(1, 16)) };
     // The number of a call without faults: they are two of five.
@@ -75,8 +77,10 @@ fn size(dice: &mut Dice, function: Function, turn: usize, faults: &[Fault]) -> [
     match faults {
         [] if function == Function::SplitNoise => [2 + good % 7, 2 + good / 7 % 2, 256],
         _ if function == Function::SplitNoise => [n, dice.between(2, 3), 256],
-        _ if function != Function::SamplePolynomial => [n, k, 1],
         // One pair of n and k after the other.
+        [] if function == Function::ConvertValue => [2 + good % 7, 1 + good / 7 % 16, 1],
+        [High(_)] if function == Function::ConvertValue && dice.one_in(4) => [8, 16, 1],
+        _ if function != Function::SamplePolynomial => [n, k, 1],
         [] => [2 + good % 7, 1 + good / 7 % 16, coefficients(dice)],
         [Wide(_)] if dice.one_in(2) => [8, 1, 256],
         [High(_)] if dice.one_in(2) => [8, 16, 256],

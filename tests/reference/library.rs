@@ -28,6 +28,9 @@ mod splits;
 mod start;
 mod tally;
 mod text;
+mod value;
+mod value_met;
+mod values;
 mod walk;
 mod way;
 mod work;
@@ -42,6 +45,7 @@ use noise::Coefficient;
 use std::process::exit;
 use tally::Tally;
 use text::Text;
+use value::Relations;
 use walk::Walk;
 use way::Ways;
 
@@ -74,13 +78,14 @@ struct Comparison {
     walks: usize,
     ways: Ways,
     keys: Keys,
+    values: Relations,
 }
 
 impl Comparison {
     fn new(seed: u64) -> Comparison {
         let (through_c, through_slices) = (Met::default(), Met::default());
         let (lessons, reports, ways, keys) = (Tally::new(Text::Lesson), Tally::new(Text::Report), Ways::default(), Keys::default());
-        Comparison { seed, compared: 0, differences: 0, through_c, through_slices, lessons, reports, walks: 0, ways, keys }
+        Comparison { seed, compared: 0, differences: 0, through_c, through_slices, lessons, reports, walks: 0, ways, keys, values: Relations::new() }
     }
 
     fn differs(&mut self, call: &Call, text: &str) {
@@ -193,10 +198,14 @@ impl Comparison {
     /// One made call more, and what must hold of an accepted one.
     fn take(&mut self, call: &Call) {
         let (before, outcome) = (self.differences, self.compare(call));
+        if self.differences == before {
+            self.convert_as_bit(call, &outcome);
+        }
         match call.function {
             _ if outcome.answer.code != 0 || self.differences > before => (),
             Function::Sample | Function::SamplePolynomial => drop(self.open_coefficients(call, &outcome)),
             Function::SplitNoise if self.ways.is_due(call) => drop(self.go_all_the_way(call, &outcome)),
+            Function::ConvertValue => self.open_value(call, &outcome),
             Function::Mask => self.open_mask(call, &outcome),
             Function::LessonText => count_file(&mut self.lessons, call),
             Function::ReportText => count_file(&mut self.reports, call),
@@ -226,9 +235,9 @@ impl Comparison {
     fn print(&self, made: usize) -> usize {
         println!("library: {made} calls made, {} compared with those that follow from them", self.compared);
         println!("  {} walks through one list of words, by calls that hand the position on", self.walks);
-        let ways = self.ways.print();
+        let relations = self.ways.print() + self.values.print();
         let calls = self.through_c.print("the C functions") + self.through_slices.print("the Rust bindings");
-        let gaps = ways + calls + self.lessons.print() + self.reports.print();
+        let gaps = relations + calls + self.lessons.print() + self.reports.print();
         self.keys.print();
         gaps
     }

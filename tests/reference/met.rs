@@ -1,8 +1,8 @@
 //! What the compared calls met: which function accepted or refused, why and at which places.
 
-use crate::call::{Answer, Call, Function, FUNCTIONS};
+use crate::call::{Answer, Call, Form, Function, FUNCTIONS};
 use crate::kinds::{print_gaps, Kinds};
-use crate::{polynomial, splits, start, work};
+use crate::{polynomial, splits, start, value_met, work};
 use std::collections::{BTreeMap, BTreeSet};
 
 /// A kind of call that is met less often says too little.
@@ -23,6 +23,7 @@ struct Counts {
 fn kinds_to_meet(function: Function) -> Vec<String> {
     match function {
         Function::ConvertBit => start::to_meet(function),
+        Function::ConvertValue => value_met::to_meet(),
         Function::Sample => [start::to_meet(function), work::to_meet(function)].concat(),
         Function::SamplePolynomial => [polynomial::to_meet(), work::to_meet(function)].concat(),
         Function::SplitNoise => splits::to_meet(),
@@ -34,11 +35,17 @@ fn kinds_to_meet(function: Function) -> Vec<String> {
 fn kinds_met(call: &Call, answer: Answer) -> Vec<String> {
     match call.function {
         Function::ConvertBit => start::met(call, answer),
+        Function::ConvertValue => value_met::met(call, answer),
         Function::Sample => [start::met(call, answer), work::met(call, answer)].concat(),
         Function::SamplePolynomial => [polynomial::met(call, answer), work::met(call, answer)].concat(),
         Function::SplitNoise => splits::met(call, answer),
         _ => vec![],
     }
+}
+
+/// Whether every n and k are to be accepted.
+fn has_pairs(form: &Form) -> bool {
+    form.numbers.starts_with(&["n", "k"])
 }
 
 /// Counts over all calls of a layer.
@@ -100,7 +107,8 @@ impl Counts {
         };
         let refusals: Vec<String> = form.refusals.iter().map(refusal).collect();
         let kinds: String = self.kinds.lines().map(|line| format!("; {line}")).collect();
-        format!("{} {}, accepted {}, refused {}{kinds}", form.name, self.all(), self.times(0), refusals.join(", "))
+        let pairs = if has_pairs(&form) { format!(" with {} pairs of n and k", self.pairs.len()) } else { String::new() };
+        format!("{} {}, accepted {}{pairs}, refused {}{kinds}", form.name, self.all(), self.times(0), refusals.join(", "))
     }
 
     /// What the calls should have met and did not: each refusal, at the first and the last place, acceptance with every n and k, with n places
@@ -118,7 +126,7 @@ impl Counts {
                 }
             }
         }
-        if form.numbers.starts_with(&["n", "k"]) && self.pairs.len() != 7 * 16 {
+        if has_pairs(&form) && self.pairs.len() != 7 * 16 {
             gaps.push(format!("{} accepts only {} pairs of n and k", form.name, self.pairs.len()));
         }
         gaps.extend(self.kinds.gaps(form.name, FEWEST_OF_A_KIND));

@@ -15,6 +15,9 @@ const ALONE: Around = [&[], &[]];
 /// Some of these are below q and some are not.
 const AROUND: Around = [&[1, u16::MAX, 2, 5, 0], &[2, 17, 1, 0, u16::MAX]];
 
+/// For a call that starts at word 0.
+const BEHIND: Around = [&[], &[2, 17, 1, 0, u16::MAX]];
+
 fn convert_bit(q: u16, bits: &[u16], words: &[u16], start: usize, out: &mut [u16]) -> Result<usize, Refusal> {
     tinplateau::convert_bit(out.len(), q, bits, words, start, out)
 }
@@ -34,6 +37,13 @@ fn polynomial(q: u16, bits: &[u16], words: &[u16], _: usize, out: &mut [u16]) ->
     let (n, mut work) = (out.len() / 2, WORK);
     let (x, y) = bits.split_at(out.len());
     tinplateau::sample_polynomial(n, 1, q, 2, x, y, words, out, &mut work[..n])
+}
+
+/// A string of as many bits as its n shares make up: the shares of bit 0, then those of bit 1, and so on. It starts at word 0.
+fn value(q: u16, bits: &[u16], words: &[u16], _: usize, out: &mut [u16]) -> Result<usize, Refusal> {
+    let (n, k) = (out.len(), bits.len() / out.len());
+    let shares: Vec<u16> = (0..n).map(|share| (0..k).map(|i| bits[i * n + share] << i).sum()).collect();
+    tinplateau::convert_value(n, k, q, &shares, words, out)
 }
 
 /// Goes on to the next list of numbers below the bound. After the last it answers false.
@@ -90,7 +100,11 @@ fn is_even(name: &str, make: Maker, around: Around, [bits, coefficients]: [usize
         }
     }
     let share = if coefficients > 1 { "share of each coefficient" } else { "share" };
-    let from = if around == ALONE { String::new() } else { format!(" start {}, words around", around[0].len()) };
+    let from = match around {
+        ALONE => String::new(),
+        [[], _] => ", words behind".to_string(),
+        [before, _] => format!(" start {}, words around", before.len()),
+    };
     println!("  {name} n {n} q {q}{from}: {each} times each, whichever {share} is left out, for each of {} inputs", 1 << input.len());
     true
 }
@@ -109,6 +123,23 @@ fn all_shares_tell() -> bool {
     let right = spreads.len() == 9 && spreads.values().all(|values| values.len() == 1);
     let judgement = if right { ", one for each pair of samples" } else { ", which is wrong" };
     println!("  tp_sample_polynomial k 1 m 2 n {n} q {q}, no share left out: {} spreads{judgement}", spreads.len());
+    right
+}
+
+/// With no share left out, the shares of a string of two bits are spread in as many ways as its number has values modulo q, and by these.
+fn all_shares_of_value_tell(q: u16) -> bool {
+    let mut spreads: BTreeMap<Vec<Vec<usize>>, BTreeSet<u16>> = BTreeMap::new();
+    let (n, mut input) = (2, [0; 4]);
+    loop {
+        let number = (input[0] ^ input[1]) + 2 * (input[2] ^ input[3]);
+        spreads.entry(counts(value, q, n, 1, &input, ALONE, &[vec![0, 1]])).or_default().insert(number % q);
+        if !advance(&mut input, 2) {
+            break;
+        }
+    }
+    let right = spreads.len() == q.min(4) as usize && spreads.values().all(|numbers| numbers.len() == 1);
+    let judgement = if right { ", one for each number modulo q" } else { ", which is wrong" };
+    println!("  tp_convert_value k 2 n {n} q {q}, no share left out: {} spreads{judgement}", spreads.len());
     right
 }
 
@@ -202,8 +233,16 @@ fn first_share_tells_nothing() -> bool {
     [7, 1].map(|seen| WAYS.map(|way| way.is_right(seen))) == [[true; 2]; 2]
 }
 
-/// The one-bit call, and the sampler and polynomials with k 1, each with these n and q. The larger counts take long, and are made without words
-/// around.
+/// Strings with these k, n and q. With k 3, the highest factor is 0 modulo 4.
+fn values_tell_nothing() -> bool {
+    let sizes = [(1, 2, 3), (1, 3, 3), (2, 2, 3), (2, 2, 4), (2, 2, 5), (3, 2, 3), (3, 2, 4)];
+    let even = sizes.map(|(k, n, q)| is_even(&format!("tp_convert_value k {k}"), value, ALONE, [k, 1], n, q));
+    let behind = [3, 4].map(|q| is_even("tp_convert_value k 2", value, BEHIND, [2, 1], 2, q));
+    even == [true; 7] && behind == [true; 2]
+}
+
+/// The one-bit call, strings, and the sampler and polynomials with k 1, each with these n and q. The larger counts take long, and are made without
+/// words around.
 pub fn holds() -> bool {
     println!("secrecy: how often each value of the other shares occurs over all word lists");
     let bit = |around, n, q| is_even("tp_convert_bit", convert_bit, around, [1, 1], n, q);
@@ -215,6 +254,7 @@ pub fn holds() -> bool {
         bits == [true; 4] && samples == [true; 3]
     });
     let large = [one(ALONE, 2, Q), one(ALONE, 3, 3), two(ALONE, 2, 3)];
+    let values = [values_tell_nothing(), all_shares_of_value_tell(3), all_shares_of_value_tell(4), all_shares_of_value_tell(5)];
     let told = [all_shares_tell(), first_share_tells_nothing()];
-    small == [true; 2] && large == [true; 3] && told == [true; 2]
+    small == [true; 2] && large == [true; 3] && values == [true; 4] && told == [true; 2]
 }

@@ -12,7 +12,7 @@ pub fn fitting_length(n: u64, k: u64) -> u64 {
 }
 
 /// One of the others, or the number with a high bit set, which is right again where that bit is lost.
-fn unfit(dice: &mut Dice, number: u64, others: &[u64]) -> u64 {
+pub fn unfit(dice: &mut Dice, number: u64, others: &[u64]) -> u64 {
     if dice.one_in(2) {
         return dice.pick(others);
     }

@@ -48,6 +48,11 @@ fn bit_of(n: usize, words: usize, start: usize, out: usize) -> Result<usize, Ref
     convert_bit(n, Q, &vec![0; n], &words_from(start, words), start, &mut vec![0; out])
 }
 
+/// A converted string of zeros with lists of these lengths.
+fn value_of(n: usize, k: usize, q: u16, words: usize, out: usize) -> Result<usize, Refusal> {
+    convert_value(n, k, q, &vec![0; n], &vec![0; words], &mut vec![0; out])
+}
+
 /// A call that writes a text of a file.
 type TextCall = fn(&[u8], &mut [u16], &mut [u8]) -> Result<usize, Refusal>;
 
@@ -139,7 +144,24 @@ fn bit_sizes_are_exact() {
 }
 
 #[test]
+fn value_sizes_are_exact() {
+    for n in MIN_SHARES..=MAX_SHARES {
+        for k in MIN_BITS..=MAX_BITS {
+            let words = value_words(n, k);
+            for q in [3, Q, u16::MAX] {
+                assert_eq!(value_of(n, k, q, words, n), Ok(words));
+                assert_eq!(value_of(n, k, q, words + 1, n + 1), Ok(words));
+                assert_eq!(value_of(n, k, q, words - 1, n), refused(Reason::WordCount, 0));
+                assert_eq!(value_of(n, k, q, words, n - 1), refused(Reason::OutputRoom, 0));
+            }
+        }
+    }
+}
+
+#[test]
 fn sizes_of_unfit_numbers_do_not_overflow() {
+    assert_eq!([value_words(0, 0), value_words(0, 1), value_words(2, 0)], [0; 3]);
+    assert_eq!([value_words(usize::MAX, 1), value_words(2, usize::MAX), value_words(2, 1 << 63)], [usize::MAX; 3]);
     assert_eq!([bit_words(0), sample_words(0, 0), sample_work(0)], [0; 3]);
     assert_eq!([bit_words(usize::MAX), sample_words(usize::MAX, 1), sample_work(usize::MAX)], [usize::MAX; 3]);
     assert_eq!([polynomial_shares(0, 0), polynomial_words(0, 0, 0)], [0; 2]);
@@ -155,10 +177,12 @@ fn sizes_of_unfit_numbers_do_not_overflow() {
 fn ranges_are_exact() {
     for n in [MIN_SHARES - 1, MAX_SHARES + 1] {
         assert_eq!(sample_of(n, 1, Q, sample_words(n, 1), 0, n, sample_work(n)), refused(Reason::ShareCount, 0));
+        assert_eq!(value_of(n, 1, Q, value_words(n, 1), n), refused(Reason::ShareCount, 0));
         assert_eq!(noise_of(n, 1, noise_bytes(n, 2), noise_shares(n), noise_shares(n)), refused(Reason::ShareCount, 0));
     }
     for k in [MIN_BITS - 1, MAX_BITS + 1] {
         assert_eq!(sample_of(2, k, Q, sample_words(2, k), 0, 2, sample_work(2)), refused(Reason::StringLength, 0));
+        assert_eq!(value_of(2, k, Q, value_words(2, k), 2), refused(Reason::StringLength, 0));
     }
     for m in [MIN_COEFFICIENTS - 1, MAX_COEFFICIENTS + 1] {
         assert_eq!(fitting_polynomial(2, 1, m), refused(Reason::CoefficientCount, 0));
