@@ -15,16 +15,18 @@ ghost use Rattle.values.specs.Values.{valueShare, valued};
 ghost use Rattle.values.specs.Doubling.{doubled};
 ghost use Rattle.values.specs.Secrecy.{ValueSecrecy};
 
-// Each of the n totals doubled, and the row's share added.
+// Each of the n totals doubled, and the row's share added. Eight turns whatever n is, so that the loop can be unrolled.
 fn double_and_add(row: &[Word; 8], n: usize, q: Word, totals: &mut [Word])
     requires { ⌜ (n ≤ 8) × Modulus q × Below q n (at (now row)) × (n ≤ length (now totals)) × Below q n (at (now totals)) ⌝ }
     ensures { λ _. ⌜ now (totals .exit) ≡ overwrite (now (totals .entry)) 0 (table n (λ i. doubled q (at (now (totals .entry)) i) (at (now (row .entry)) i))) ⌝ }
 {
     let modulus = residue::widen(q);
-    for i in 0..n {
-        let total = residue::widen(totals[i]);
-        let twice = residue::add(total, total, modulus);
-        totals[i] = residue::narrow(residue::add(twice, residue::widen(row[i]), modulus), q);
+    for i in 0..8 {
+        if i < n {
+            let total = residue::widen(totals[i]);
+            let twice = residue::add(total, total, modulus);
+            totals[i] = residue::narrow(residue::add(twice, residue::widen(row[i]), modulus), q);
+        }
     }
 }
 
