@@ -16,7 +16,7 @@ help:
 	@echo 'make lib        the library for C and Rust: $(library) and $(header)'
 	@echo 'make install    installs these and a pkg-config file below PREFIX, here $(PREFIX); DESTDIR goes before it'
 	@echo 'make uninstall  removes what make install installs'
-	@echo 'make bench      samples, polynomials and the split of noise beside plain and careful C'
+	@echo 'make bench      samples, polynomials, the split of noise and converted values beside plain and careful C'
 	@echo 'make clean      removes target/ and build/'
 
 lesson:

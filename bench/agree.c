@@ -15,8 +15,14 @@ static size_t one_off(size_t number)
     return number + 1 - 2 * random_within(0, 1);
 }
 
-/* Makes a number of a sampler's call unfit for one of the checks. */
-static void damage_number(call *c, point p, size_t m, enum tp_code check)
+/* What check 3 asks of q. */
+static size_t least_modulus(const contest *in, size_t k)
+{
+    return in->task == VALUES ? 3 : 2 * k + 1;
+}
+
+/* Makes a number of a sampler's or a conversion's call unfit for one of the checks. */
+static void damage_number(call *c, const contest *in, point p, size_t m, enum tp_code check)
 {
     size_t shares = TP_POLYNOMIAL_SHARES(p.n, m);
     if (check == TP_SHARE_COUNT)
@@ -24,7 +30,7 @@ static void damage_number(call *c, point p, size_t m, enum tp_code check)
     else if (check == TP_STRING_LENGTH)
         c->p.k = random_outside(TP_MIN_BITS, TP_MAX_BITS);
     else if (check == TP_MODULUS)
-        c->p.q = random_within(0, 2 * p.k);
+        c->p.q = random_within(0, least_modulus(in, p.k) - 1);
     else if (check == TP_COEFFICIENT_COUNT)
         c->m = random_outside(TP_MIN_COEFFICIENTS, TP_MAX_COEFFICIENTS);
     else if (check == TP_X_COUNT)
@@ -32,7 +38,7 @@ static void damage_number(call *c, point p, size_t m, enum tp_code check)
     else if (check == TP_Y_COUNT)
         c->y_len = one_off(shares);
     else if (check == TP_WORD_COUNT)
-        c->words_len = random_within(0, TP_POLYNOMIAL_WORDS(p.n, p.k, m) - 1);
+        c->words_len = random_within(0, words_needed(in, p, m) - 1);
     else if (check == TP_OUTPUT_ROOM)
         c->out_len = random_within(0, shares - 1);
     else if (check == TP_WORK_ROOM)
@@ -40,7 +46,7 @@ static void damage_number(call *c, point p, size_t m, enum tp_code check)
 }
 
 /* The same for what a list holds, in any coefficient. */
-static void damage_list(call *c, point p, size_t m, enum tp_code check)
+static void damage_list(call *c, const contest *in, point p, size_t m, enum tp_code check)
 {
     size_t share = random_within(0, TP_POLYNOMIAL_SHARES(p.n, m) - 1);
     if (check == TP_X_WIDTH)
@@ -48,7 +54,7 @@ static void damage_list(call *c, point p, size_t m, enum tp_code check)
     else if (check == TP_Y_WIDTH)
         c->y[share] |= 1u << p.k;
     else if (check == TP_WORD_RANGE)
-        c->words[random_within(0, TP_POLYNOMIAL_WORDS(p.n, p.k, m) - 1)] = random_within(p.q, UINT16_MAX);
+        c->words[random_within(0, words_needed(in, p, m) - 1)] = random_within(p.q, UINT16_MAX);
 }
 
 /* The same for a split. */
@@ -103,11 +109,11 @@ static bool agree_at(const contest *in, point p)
     for (size_t damages = 0; agreed && damages < 3; damages++) {
         agreed = all_agree(in, &c, damages > 0);
         enum tp_code check = in->checks[random_within(0, in->checks_len - 1)];
-        if (in->splits)
+        if (in->task == SPLITS)
             damage_split(&c, p, check);
         else {
-            damage_number(&c, p, m, check);
-            damage_list(&c, p, m, check);
+            damage_number(&c, in, p, m, check);
+            damage_list(&c, in, p, m, check);
         }
     }
     free_call(&c);
@@ -117,11 +123,12 @@ static bool agree_at(const contest *in, point p)
 /* At every n and k, with a random q where one is asked for. */
 bool agree_everywhere(const contest *in)
 {
-    size_t calls = 0, least_k = in->splits ? 2 : TP_MIN_BITS, most_k = in->splits ? 3 : TP_MAX_BITS;
+    bool splits = in->task == SPLITS;
+    size_t calls = 0, least_k = splits ? 2 : TP_MIN_BITS, most_k = splits ? 3 : TP_MAX_BITS;
     for (size_t round = 0; round < in->agreements; round++)
         for (size_t n = TP_MIN_SHARES; n <= TP_MAX_SHARES; n++)
             for (size_t k = least_k; k <= most_k; k++) {
-                if (!agree_at(in, (point){n, k, in->splits ? 3329 : random_within(2 * k + 1, UINT16_MAX)}))
+                if (!agree_at(in, (point){n, k, splits ? 3329 : random_within(least_modulus(in, k), UINT16_MAX)}))
                     return false;
                 calls += 3;
             }

@@ -1,4 +1,5 @@
-/* The library's sampler beside samplers in C, on the same inputs: samples, and polynomials. The same for the split of noise.
+/* The library's sampler beside samplers in C, on the same inputs: samples, and polynomials. The same for the split of noise and the conversion
+ * of values.
  *
  *   bench agree           checks that all leave the same behind
  *   bench time            times all; writes lines 'CONTEST POINT NAME NANOSECONDS', for one coefficient
@@ -74,15 +75,15 @@ static void time_round(const contest *in, const call *calls, size_t passes, doub
  * others. So the rounds are short and many, each goes over all points, and the order is shuffled: all meet the machine at rest. */
 static void time_all(const contest *in, table least)
 {
-    call *calls[POINTS];
-    size_t passes[POINTS];
-    for (size_t at = 0; at < POINTS; at++) {
+    call *calls[MAX_POINTS];
+    size_t passes[MAX_POINTS];
+    for (size_t at = 0; at < in->points_len; at++) {
         calls[at] = make_calls(in, in->points[at]);
         time_round(in, calls[at], 1, least[at]);
         passes[at] = 1 + BATCH_NS / (least[at][0] * in->inputs * in->m);
     }
     for (size_t round = 0; round < ROUNDS; round++)
-        for (size_t at = 0; at < POINTS; at++)
+        for (size_t at = 0; at < in->points_len; at++)
             time_round(in, calls[at], passes[at], least[at]);
 }
 
@@ -91,7 +92,7 @@ static void time_all(const contest *in, table least)
 /* Writes a line for each contestant at each point, with its number where there are any. */
 static void write_lines(const contest *in, const double (*values)[MAX_CONTESTANTS])
 {
-    for (size_t at = 0; at < POINTS; at++)
+    for (size_t at = 0; at < in->points_len; at++)
         for (size_t who = 0; who < in->count; who++) {
             printf("%s %zu %s", in->name, at, in->contestants[who].name);
             if (values != NULL)
@@ -125,7 +126,7 @@ static bool read_values(table values[CONTESTS], bool whole)
     double value;
     while (scanf("%63s %zu %63s %lf", contest_name, &at, name, &value) == 4) {
         const contest *in = find_contest(contest_name);
-        if (in == NULL || at >= POINTS || find_contestant(in, name) == in->count)
+        if (in == NULL || at >= in->points_len || find_contestant(in, name) == in->count)
             return false;
         value /= whole ? in->inputs * in->m : 1;
         double *kept = &values[in - contests][at][find_contestant(in, name)];
@@ -134,13 +135,13 @@ static bool read_values(table values[CONTESTS], bool whole)
         lines++;
     }
     for (size_t i = 0; i < CONTESTS; i++)
-        expected += POINTS * contests[i].count;
+        expected += contests[i].points_len * contests[i].count;
     return feof(stdin) && lines >= expected;
 }
 
 static int count_inputs(const contest *in, size_t at, const char *name)
 {
-    if (in == NULL || at >= POINTS || find_contestant(in, name) == in->count)
+    if (in == NULL || at >= in->points_len || find_contestant(in, name) == in->count)
         return 2;
     run_inputs(&in->contestants[find_contestant(in, name)], make_calls(in, in->points[at]), in->inputs, 1);
     return 0;

@@ -30,6 +30,12 @@ static uint16_t *make_list(size_t len, size_t limit)
     return list;
 }
 
+/* The random words of a call of m coefficients. */
+size_t words_needed(const contest *in, point p, size_t m)
+{
+    return in->task == VALUES ? TP_VALUE_WORDS(p.n, p.k) : TP_POLYNOMIAL_WORDS(p.n, p.k, m);
+}
+
 /* The bytes of a point, whose k is that of set 1 or 2. */
 static void make_split(call *c, point p)
 {
@@ -47,14 +53,14 @@ static void make_split(call *c, point p)
         c->bytes[i] = random_within(0, UINT8_MAX);
 }
 
-static void make_sample(call *c, point p, size_t m)
+static void make_sample(call *c, const contest *in, point p, size_t m)
 {
     size_t shares = TP_POLYNOMIAL_SHARES(p.n, m);
     *c = (call){.p = p,
                 .m = m,
                 .x_len = shares,
                 .y_len = shares,
-                .words_len = TP_POLYNOMIAL_WORDS(p.n, p.k, m) + random_within(0, SPARE),
+                .words_len = words_needed(in, p, m) + random_within(0, SPARE),
                 .out_len = shares + random_within(0, SPARE),
                 .work_len = TP_SAMPLE_WORK(p.n) + random_within(0, SPARE),
                 .other_shares = shares - p.n,
@@ -67,10 +73,10 @@ static void make_sample(call *c, point p, size_t m)
 /* An accepted call. */
 void make_call(call *c, const contest *in, point p, size_t m)
 {
-    if (in->splits)
+    if (in->task == SPLITS)
         make_split(c, p);
     else
-        make_sample(c, p, m);
+        make_sample(c, in, p, m);
 }
 
 void free_call(call *c)

@@ -1,35 +1,12 @@
-/* The sampler of documents 01 and 02 in C, with words from the front of the list. The file that includes this one says by which functions it
- * reckons modulo q: add, sub and less_twice (v - 2vb for a bit b), on operands below q. It is built for each compiler and call apart:
+/* The sampler of documents 01 and 02 in C, with words from the front of the list. It is built for each compiler and call apart:
  * -DNAME=careful_sample_gcc, or -DNAME=careful_polynomial_gcc -DIS_polynomial. */
 #ifndef BENCH_SAMPLER_H
 #define BENCH_SAMPLER_H
 
+#include "bit.h"
 #include "checks.h"
 
 #include <stdbool.h>
-
-/* Steps 1 to 3: the row of bit t, from its n(n - 1) words. */
-static inline void convert_bit(const uint16_t *shares, size_t t, size_t n, uint32_t q, const uint16_t *words, uint16_t row[8])
-{
-    row[0] = (shares[0] >> t) & 1;
-    for (size_t j = 1; j < n; j++) {
-        uint32_t bit = (shares[j] >> t) & 1;
-        uint32_t sum = 0;
-        for (size_t i = 0; i < j; i++) {
-            uint32_t r = *words++;
-            sum = add(sum, r, q);
-            row[i] = less_twice(sub(row[i], r, q), bit, q);
-        }
-        row[j] = less_twice(sum, bit, q);
-        row[0] = add(row[0], bit, q);
-    }
-    for (size_t i = 0; i < n; i++)
-        for (size_t m = i + 1; m < n; m++) {
-            uint32_t r = *words++;
-            row[i] = add(row[i], r, q);
-            row[m] = sub(row[m], r, q);
-        }
-}
 
 /* The rows of the k bits of a string, each added to the totals or taken off. */
 static inline void add_string(const uint16_t *shares, size_t n, size_t k, uint32_t q, const uint16_t *words, bool negative, uint16_t *totals)

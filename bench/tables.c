@@ -20,11 +20,11 @@ static void print_values(const contest *in, const char *what, const table values
     for (size_t who = 0; who < in->count; who++)
         printf(" %14s", in->contestants[who].title);
     putchar('\n');
-    for (size_t at = 0; at < POINTS; at++) {
+    for (size_t at = 0; at < in->points_len; at++) {
         point p = in->points[at];
         print_point(p);
         for (size_t who = 0; who < in->count; who++)
-            printf(" %14.*f", per_word || in->splits ? 2 : 1, values[at][who] / (per_word ? TP_SAMPLE_WORDS(p.n, p.k) : 1));
+            printf(" %14.*f", per_word || in->task == SPLITS ? 2 : 1, values[at][who] / (per_word ? words_needed(in, p, 1) : 1));
         putchar('\n');
     }
     putchar('\n');
@@ -46,7 +46,7 @@ static void print_ratios(const contest *in, const char *what, const table values
     for (size_t g = 0; g < GOALS; g++)
         printf(" %14s", in->goals[g].title);
     putchar('\n');
-    for (size_t at = 0; at < POINTS; at++) {
+    for (size_t at = 0; at < in->points_len; at++) {
         print_point(in->points[at]);
         for (size_t g = 0; g < GOALS; g++)
             printf(" %14.3f", ratio(in, values[at], in->goals[g].kind));
@@ -64,7 +64,7 @@ static void print_goal(const contest *in, const goal *g, const table values)
     if (g->noise > 0)
         printf(", with %.0f in 100 allowed for noise", 100 * g->noise);
     putchar(':');
-    for (size_t at = 0; at < POINTS; at++) {
+    for (size_t at = 0; at < in->points_len; at++) {
         point p = in->points[at];
         double r = ratio(in, values[at], g->kind);
         if (p.n < g->from || r <= g->most + g->noise)
@@ -79,7 +79,7 @@ static void print_tables(const contest *in, const char *what, const char *compar
 {
     printf("-- %s\n", in->title);
     print_values(in, what, values, false);
-    if (!in->splits)
+    if (in->task != SPLITS)
         print_values(in, what, values, true);
     print_ratios(in, compared, values);
 }

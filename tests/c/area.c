@@ -16,28 +16,6 @@ static size_t sample_words(const struct input *in)
     return 2 * in->k * in->n * (in->n - 1);
 }
 
-/* The row of a bit whose shares are b, with the words from r on. B - 2Bb is B or -B. */
-static void convert_row(size_t n, uint32_t q, const uint16_t *b, const uint16_t *r, uint32_t row[SHARES])
-{
-    row[0] = b[0];
-    for (size_t j = 1; j < n; j++) {
-        row[j] = 0;
-        for (size_t i = 0; i < j; i++, r++) {
-            row[i] = (row[i] + q - *r) % q;
-            row[j] = (row[j] + *r) % q;
-        }
-        for (size_t i = 0; i <= j; i++)
-            row[i] = b[j] == 1 ? (q - row[i]) % q : row[i];
-        row[0] = (row[0] + b[j]) % q;
-    }
-    for (size_t i = 0; i < n; i++) {
-        for (size_t m = i + 1; m < n; m++, r++) {
-            row[i] = (row[i] + *r) % q;
-            row[m] = (row[m] + q - *r) % q;
-        }
-    }
-}
-
 /* The shares of coefficient t: the rows of x less those of y. */
 static void expect_shares(struct input *in, size_t t)
 {

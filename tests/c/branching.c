@@ -1,4 +1,5 @@
-/* Samplers that branch on the words, and a split that branches on the bytes: what tests/machine_code must find out when it counts instructions. */
+/* Samplers and a conversion that branch on the words, and a split that branches on the bytes: what tests/machine_code must find out when it counts
+ * instructions. */
 #include "tinplateau.h"
 
 static tp_answer branch(const uint16_t *words, size_t words_len, uint16_t *out)
@@ -8,6 +9,13 @@ static tp_answer branch(const uint16_t *words, size_t words_len, uint16_t *out)
             out[0] = words[i];
     }
     return (tp_answer){0, words_len};
+}
+
+tp_answer tp_convert_value(size_t n, size_t k, uint16_t q, const uint16_t *shares, size_t shares_len, const uint16_t *words, size_t words_len,
+                           uint16_t *out, size_t out_len)
+{
+    (void)n, (void)k, (void)q, (void)shares, (void)shares_len, (void)out_len;
+    return branch(words, words_len, out);
 }
 
 tp_answer tp_sample(size_t n, size_t k, uint16_t q, const uint16_t *x, size_t x_len, const uint16_t *y, size_t y_len, const uint16_t *words,

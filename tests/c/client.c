@@ -12,7 +12,29 @@ void draw(uint16_t *numbers, size_t count, uint32_t bound)
         numbers[i] = random_below(bound);
 }
 
-static tp_string open_string(size_t n, size_t k, const uint16_t *shares)
+/* B - 2Bb is B or -B. */
+void convert_row(size_t n, uint32_t q, const uint16_t *b, const uint16_t *r, uint32_t row[SHARES])
+{
+    row[0] = b[0];
+    for (size_t j = 1; j < n; j++) {
+        row[j] = 0;
+        for (size_t i = 0; i < j; i++, r++) {
+            row[i] = (row[i] + q - *r) % q;
+            row[j] = (row[j] + *r) % q;
+        }
+        for (size_t i = 0; i <= j; i++)
+            row[i] = b[j] == 1 ? (q - row[i]) % q : row[i];
+        row[0] = (row[0] + b[j]) % q;
+    }
+    for (size_t i = 0; i < n; i++) {
+        for (size_t m = i + 1; m < n; m++, r++) {
+            row[i] = (row[i] + *r) % q;
+            row[m] = (row[m] + q - *r) % q;
+        }
+    }
+}
+
+tp_string open_string(size_t n, size_t k, const uint16_t *shares)
 {
     lent buffer = lend((list){shares, n}, 0);
     tp_opened_string string = tp_open_string(n, k, WORDS(buffer));
@@ -72,6 +94,8 @@ static void run_pass(enum pass next)
     pass = next;
     masking_cases();
     conversion_cases();
+    value_cases();
+    value_refusals();
     sampler_cases();
     sample_all_sizes();
     start_cases();

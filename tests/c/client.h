@@ -5,7 +5,7 @@
 #include "lend.h"
 #include "tinplateau.h"
 
-enum { SPARE = 3, SHARES = 8, BITS = 16, COEFFICIENTS = 256, SAMPLE_WORDS = 2 * BITS * SHARES * (SHARES - 1) };
+enum { SPARE = 3, SHARES = 8, BITS = 16, COEFFICIENTS = 256, VALUE_WORDS = BITS * SHARES * (SHARES - 1), SAMPLE_WORDS = 2 * VALUE_WORDS };
 
 /* A call of tp_mask and what it is to answer. */
 struct mask_case {
@@ -24,6 +24,17 @@ struct bit_case {
     size_t n;
     uint16_t q;
     list bits, words;
+    size_t out;
+    tp_answer answer;
+    list shares;
+};
+
+/* A call of tp_convert_value and what it is to answer. */
+struct value_case {
+    int line;
+    size_t n, k;
+    uint16_t q;
+    list boolean, words;
     size_t out;
     tp_answer answer;
     list shares;
@@ -65,6 +76,7 @@ typedef struct {
  * that an accepted call makes are copied. A call that starts somewhere answers where the next one may start. */
 void mask(const struct mask_case *c, size_t spare, uint16_t shares[SHARES]);
 size_t convert_bit(const struct bit_case *c, origin from, size_t spare, uint16_t shares[SHARES]);
+void convert_value(const struct value_case *c, size_t spare, uint16_t shares[SHARES]);
 size_t sample(const struct sample_case *c, origin from, size_t spare, uint16_t shares[SHARES]);
 void sample_polynomial(size_t m, const struct sample_case *c, size_t spare, uint16_t *shares);
 /* The same with this content in front of the work area. With no number of coefficients it is one sample. A polynomial starts at the front. */
@@ -73,7 +85,11 @@ size_t call_sampler(const size_t *m, const struct sample_case *c, origin from, s
 void split_noise(const struct noise_case *c);
 
 /* Opens n shares, which are fit for it. */
+tp_string open_string(size_t n, size_t k, const uint16_t *shares);
 tp_residue open_residue(size_t n, uint16_t q, const uint16_t *shares);
+
+/* The row of a bit whose shares are b, with the words from r on, by the written steps. */
+void convert_row(size_t n, uint32_t q, const uint16_t *b, const uint16_t *r, uint32_t row[SHARES]);
 
 /* The shares begin with those expected. */
 void check_shares(const uint16_t *shares, list expected);
@@ -83,6 +99,8 @@ void draw(uint16_t *numbers, size_t count, uint32_t bound);
 
 void masking_cases(void);
 void conversion_cases(void);
+void value_cases(void);
+void value_refusals(void);
 void sampler_cases(void);
 void start_cases(void);
 void polynomial_cases(void);

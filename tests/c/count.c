@@ -1,5 +1,5 @@
-/* One call: count tp_sample 1 n k q input, count tp_sample_polynomial m n k q input, or count tp_split_noise 256 n k 3329 input. Input 0 is all
- * zeros, 1 all largest values, and another number a seed. A sample starts behind words of any value. */
+/* One call: count tp_sample 1 n k q input, count tp_sample_polynomial m n k q input, count tp_convert_value 1 n k q input, or count tp_split_noise
+ * 256 n k 3329 input. Input 0 is all zeros, 1 all largest values, and another number a seed. A sample starts behind words of any value. */
 #include "seeded.h"
 #include "tinplateau.h"
 
@@ -35,6 +35,17 @@ static int count_split(size_t m, size_t n, size_t k, uint16_t q, unsigned long i
     return answer.code == 0 && answer.value == shares ? EXIT_SUCCESS : EXIT_FAILURE;
 }
 
+static int count_value(size_t m, size_t n, size_t k, uint16_t q, unsigned long input)
+{
+    size_t used = k * n * (n - 1);
+    if (m != 1 || n > SHARES || k > BITS)
+        return EXIT_FAILURE;
+    make(x, n, 1u << k, input);
+    make(words, used, q, input);
+    tp_answer answer = tp_convert_value(n, k, q, x, n, words, used, out, n);
+    return answer.code == 0 && answer.value == used ? EXIT_SUCCESS : EXIT_FAILURE;
+}
+
 int main(int argc, char **argv)
 {
     if (argc != 7)
@@ -45,6 +56,8 @@ int main(int argc, char **argv)
     unsigned long input = strtoul(argv[6], NULL, 10);
     if (strcmp(argv[1], "tp_split_noise") == 0)
         return count_split(m, n, k, q, input);
+    if (strcmp(argv[1], "tp_convert_value") == 0)
+        return count_value(m, n, k, q, input);
     if (m > MOST || n > SHARES || k > BITS)
         return EXIT_FAILURE;
     make(x, shares, 1u << k, input);

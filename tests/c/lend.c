@@ -1,4 +1,6 @@
 /* Checks that are counted, and the buffers that are lent to a call. */
+#define _DEFAULT_SOURCE
+
 #include "lend.h"
 
 #include "seeded.h"
@@ -6,6 +8,8 @@
 #include <stdio.h>
 #include <stdlib.h>
 #include <string.h>
+#include <sys/mman.h>
+#include <unistd.h>
 
 enum { GUARD_SIZE = 512, GUARD = 0xA5 };
 
@@ -29,6 +33,7 @@ void check(bool holds, const char *condition, const char *file, int line)
         return;
     failed++;
     printf("%s:%d: %s (case %s:%d, %s pass)\n", file, line, condition, case_file, case_line, pass == EXACT ? "exact" : "guarded");
+    fflush(stdout); /* it is there even if a later call crashes */
 }
 
 int report(void)
@@ -37,14 +42,27 @@ int report(void)
     return failed == 0 ? EXIT_SUCCESS : EXIT_FAILURE;
 }
 
+static void require(bool holds)
+{
+    if (holds)
+        return;
+    fprintf(stderr, "client: no memory\n");
+    exit(EXIT_FAILURE);
+}
+
 static void *allocate(size_t size)
 {
     void *block = malloc(size);
-    if (block == NULL) {
-        fprintf(stderr, "client: no memory\n");
-        exit(EXIT_FAILURE);
-    }
+    require(block != NULL);
     return block;
+}
+
+void *map_edge(void)
+{
+    size_t page = (size_t)sysconf(_SC_PAGESIZE);
+    unsigned char *pages = mmap(NULL, 2 * page, PROT_READ | PROT_WRITE, MAP_PRIVATE | MAP_ANONYMOUS, -1, 0);
+    require(pages != MAP_FAILED && mprotect(pages + page, page, PROT_NONE) == 0);
+    return pages + page;
 }
 
 static void copy(void *to, const void *from, size_t size)

@@ -62,6 +62,9 @@ void take_back_kept(lent buffer);
 /* The same for a buffer whose first words the call may have written. They are copied. */
 void take_back_words(lent buffer, uint16_t *words, size_t count);
 
+/* The end of a page, behind which nothing can be read or written. It is kept to the end. */
+void *map_edge(void);
+
 /* Size 0 is equal, whatever the pointers. */
 bool equal(const void *a, const void *b, size_t size);
 

@@ -85,6 +85,24 @@ static void convert_sizes(size_t n)
     }
 }
 
+/* A string of zeros. */
+static void value_zeros(size_t n, size_t k, size_t words, size_t out, tp_answer answer)
+{
+    uint16_t shares[SHARES];
+    struct value_case c = CASE(n, k, 3, {zeros, n}, {zeros, words}, out, answer, NONE);
+    convert_value(&c, 0, shares);
+}
+
+static void value_sizes(size_t n, size_t k)
+{
+    size_t words = TP_VALUE_WORDS(n, k);
+    CHECK(2 * words == TP_SAMPLE_WORDS(n, k));
+    value_zeros(n, k, words, n, (tp_answer){TP_ACCEPTED, words});
+    value_zeros(n, k, words + 1, n + 1, (tp_answer){TP_ACCEPTED, words});
+    value_zeros(n, k, words - 1, n, (tp_answer){TP_WORD_COUNT, 0});
+    value_zeros(n, k, words, n - 1, (tp_answer){TP_OUTPUT_ROOM, 0});
+}
+
 static void all_sizes(void)
 {
     for (size_t n = TP_MIN_SHARES; n <= TP_MAX_SHARES; n++) {
@@ -92,6 +110,7 @@ static void all_sizes(void)
         noise_sizes(n, 1);
         noise_sizes(n, 2);
         for (size_t k = TP_MIN_BITS; k <= TP_MAX_BITS; k++) {
+            value_sizes(n, k);
             sample_sizes(n, k);
             polynomial_sizes(n, k, TP_MIN_COEFFICIENTS + (n + k) % 3);
         }
@@ -106,6 +125,11 @@ static void limits(void)
     CHECK(TP_BIT_WORDS(1 + 2) == 6 && TP_SAMPLE_WORDS(1 + 1, 1 + 2) == 12 && 2 * TP_SAMPLE_WORK(1 + 1) == 4 && TP_TEXT_ROOM(1 + 1) == 51);
     CHECK(TP_POLYNOMIAL_SHARES(1 + 1, 1 + 2) == 6 && TP_POLYNOMIAL_WORDS(1 + 1, 1 + 2, 1 + 1) == 24);
     CHECK(TP_NOISE_BYTES(1 + 1, 1 + 2) == 384 && TP_NOISE_SHARES(1 + 1) == 512);
+    CHECK(TP_VALUE_WORDS(1 + 2, 1 + 1) == 12 && 12 / TP_VALUE_WORDS(1 + 1, 1 + 2) == 2);
+    value_zeros(TP_MIN_SHARES - 1, 1, TP_MAX_WORDS, TP_MAX_SHARES, (tp_answer){TP_SHARE_COUNT, 0});
+    value_zeros(TP_MAX_SHARES + 1, 1, TP_MAX_WORDS, TP_MAX_SHARES + 1, (tp_answer){TP_SHARE_COUNT, 0});
+    value_zeros(2, TP_MIN_BITS - 1, TP_MAX_WORDS, 2, (tp_answer){TP_STRING_LENGTH, 0});
+    value_zeros(2, TP_MAX_BITS + 1, TP_MAX_WORDS, 2, (tp_answer){TP_STRING_LENGTH, 0});
     sample_zeros(TP_MIN_SHARES - 1, 1, TP_MAX_WORDS, 0, work, (tp_answer){TP_SHARE_COUNT, 0});
     sample_zeros(TP_MAX_SHARES + 1, 1, TP_MAX_WORDS, 0, work, (tp_answer){TP_SHARE_COUNT, 0});
     sample_zeros(2, TP_MIN_BITS - 1, TP_MAX_WORDS, 0, work, (tp_answer){TP_STRING_LENGTH, 0});
