@@ -5,15 +5,15 @@ use Prim.Native.Nat.{ℕ, zero, suc, _+_, _-_, _*_, _≤_, _<_}
 use native.Mathlib.Nat as N
 use native.Mathlib.Omega.{arith}
 use lib.ListN.{length, set, drop, replicate, length-set}
-use lib.Seq.{getD-set-other, getD-drop}
+use lib.Seq.{getD-set-same, getD-set-other, getD-drop}
 use Rattle.residue.specs.Residue.{sub, neg, add, sum, cswapSub}
 use Rattle.residue.specs.Laws.{reduce-small, reduce-lt, reduce-add, add-zero, add-comm, add-assoc, add-lt, neg-sub, sub-zero}
 use Rattle.residue.specs.Sum.{running-none, running-next, running-all, sum-last, sum-lt}
 use Rattle.buffers.specs.Positions.{at, table, after, Same, Below}
 use Rattle.buffers.specs.PositionLaws.{table-same, after-after, set-agrees}
 use Rattle.checks.specs.Width.{bit-lowest}
-use Rattle.conversion.specs.Conversion.{bitsAt, pairs, extend, lessTwice, xorBit, xorShare, convert, refresh, convertBit, bitShares}
-use Rattle.conversion.specs.ZeroSharing.{zeroSharing, refresh-adds, refresh-cong}
+use Rattle.conversion.specs.Conversion.{bitsAt, pairs, extend, lessTwice, xorBit, xorShare, convert, refreshShare, refresh, convertBit, bitShares}
+use Rattle.conversion.specs.ZeroSharing.{zeroSharing, refreshShare-gains, refreshShare-loses, refresh-adds, refresh-cong}
 use Rattle.conversion.specs.Laws.{lessTwice-zero, lessTwice-one, extend-below, extend-from, xorShare-cong, convert-reduced, convertBit-local}
 use Rattle.conversion.specs.Arrays.{Holds}
 
@@ -90,9 +90,11 @@ module _ (q j bit : ℕ) (A r : ℕ → ℕ) where
 
 -- ---- steps 1 and 2
 
-pub pairs-one : pairs 1 ≡ 0
+pub pairs-few : (n : ℕ) → n ≤ 1 → pairs n ≡ 0
 unfolding pairs
-pairs-one = refl
+pairs-few zero h = refl
+pairs-few (suc zero) h = refl
+pairs-few (suc (suc n)) h = absurd (omega arith)
 
 pub pairs-step : (n k : ℕ) → n ≡ suc k → pairs n ≡ pairs k + k
 unfolding pairs
@@ -132,29 +134,15 @@ module _ (q : ℕ) (w : ℕ → ℕ) where
     pub lost : (t : ℕ) → i < t → t < j → at a t ≡ sub q (at b t) (w (o + (t - (i + 1))))
     pub kept : (t : ℕ) → j ≤ t → at a t ≡ at b t
 
-  -- Before share i, with words from p on: what is wanted of the shares from i on is what these words make of them.
-  pub record Remaining (n : ℕ) (T : ℕ → ℕ) (i p : ℕ) (a : List ℕ) : Type 0 where
-    pub eight : length a ≡ 8
-    pub below : Below q (n - i) (after i (at a))
-    pub wanted : Same (n - i) (after i T) (λ t. add q (at a (i + t)) (zeroSharing q (n - i) (after p w) t))
-
-  pub remaining-all : (n : ℕ) (T : ℕ → ℕ) (p : ℕ) (a : List ℕ) → length a ≡ 8 → Below q n (at a) → Same n T (refresh q n (after p w) (at a)) → Remaining n T 0 p a
-  remaining-all n T p a e b h =
-      let z : n - 0 ≡ n = omega arith in
-      record { eight = e; below = λ t l. rw (N.zero-add t) (b t (omega arith)); wanted = λ t l. all t (omega arith) ∙ rw (z, N.zero-add t) }
-    where
-      all : (t : ℕ) → t < n → T (0 + t) ≡ add q (at a t) (zeroSharing q n (after p w) t)
-      all t l = ap T (N.zero-add t) ∙ h t l ∙ refresh-adds q n (after p w) (at a) (λ s m. reduce-small q (b s m)) t l
-
-  module _ (n : ℕ) (T : ℕ → ℕ) (i o : ℕ) (b : List ℕ) (L : Remaining n T i o b) (h : i < n) where
-    pub own-lt : at b i < q
-    own-lt = rw N.add-zero at (L .below 0 (omega arith))
+  module _ (n i o : ℕ) (b : List ℕ) (eight : length b ≡ 8) (below : Below q (n - i) (after i (at b))) (h : i < n) where
+    own-lt : at b i < q
+    own-lt = rw N.add-zero at (below 0 (omega arith))
 
     pub paired-none : Paired i o b (i + 1) o b (at b i)
     paired-none =
         let z : i + 1 - (i + 1) ≡ 0 = omega arith in
         record {
-          eight = L .eight;
+          eight = eight;
           position = refl;
           gained = sym (rw z (unfold sum in add-zero q (at b i)) ∙ reduce-small q own-lt);
           lost = λ t l m. absurd (omega arith);
@@ -177,43 +165,66 @@ module _ (q : ℕ) (w : ℕ → ℕ) where
       pub other-lt : j < n → at a j < q
       other-lt m =
           let e : i + (j - i) ≡ j = omega arith in
-          rw (P .kept j (omega arith)) (rw e at (L .below (j - i) (omega arith)))
+          rw (P .kept j (omega arith)) (rw e at (below (j - i) (omega arith)))
 
       pub paired-lt : own < q
       paired-lt = rw (P .gained) (add-lt q (omega (arith, own-lt)) (at b i) (sum q (j - (i + 1)) (after o w)))
 
-      module _ (y : n ≤ j) (x : j ≤ n) where
-        abbrev whole : n - i ≡ suc (n - (i + 1))
-        whole = omega arith
+      -- all pairs, and the share itself written
+      pub paired-all : n ≡ j → n ≤ 8 → (v : ℕ) → v ≡ own → Same (n - i) (after i (at (set a i v))) (after i (refreshShare q i (i + 1) (n - (i + 1)) (after o w) (at b)))
+      paired-all e m v d zero x =
+          let z : i + 0 ≡ i = omega arith in
+          let c : j - (i + 1) ≡ n - (i + 1) = omega arith in
+          rw (z, getD-set-same a i v 0 (omega (arith, P .eight)), d, P .gained, c) (sym (refreshShare-gains q i (i + 1) (n - (i + 1)) (after o w) (at b) (omega arith) (reduce-small q own-lt)))
+      paired-all e m v d (suc t) x =
+          let z : i + suc t ≡ i + 1 + t = omega arith in
+          let k : i + 1 + t - (i + 1) ≡ t = omega arith in
+          rw z (getD-set-other a i (i + 1 + t) v 0 (omega arith) ∙ P .lost (i + 1 + t) (omega arith) (omega arith) ∙ rw k (sym (refreshShare-loses q i (i + 1) (n - (i + 1)) (after o w) (at b) t (omega arith) (omega arith))))
 
-        pub share-done : T i ≡ own
-        unfolding zeroSharing
-        share-done =
-            let e : j - (i + 1) ≡ n - (i + 1) = omega arith in
-            ap T (sym (N.add-zero i)) ∙ L .wanted 0 (omega arith) ∙ rw (whole, N.add-zero i) (sym (P .gained ∙ rw e))
+  -- Before share i, with words from p on: what is wanted of the shares from i on is what these words make of them.
+  pub record Remaining (n : ℕ) (T : ℕ → ℕ) (i p : ℕ) (a : List ℕ) : Type 0 where
+    pub eight : length a ≡ 8
+    pub below : Below q (n - i) (after i (at a))
+    pub wanted : Same (n - i) (after i T) (λ t. add q (at a (i + t)) (zeroSharing q (n - i) (after p w) t))
 
-        pub remaining-next : Remaining n T (i + 1) p a
-        unfolding zeroSharing
-        remaining-next =
-            record {
-              eight = P .eight;
-              below = λ t m. rw (loss t m) (add-lt q (omega (arith, own-lt)) _ _);
-              wanted = λ t m. next t m;
-            }
-          where
-            regroup : (x y z : ℕ) → add q x (add q y z) ≡ add q (add q x z) y
-            regroup x y z = ap (add q x) (add-comm q y z) ∙ sym (add-assoc q x z y)
+  pub remaining-all : (n : ℕ) (T : ℕ → ℕ) (p : ℕ) (a : List ℕ) → length a ≡ 8 → Below q n (at a) → Same n T (refresh q n (after p w) (at a)) → Remaining n T 0 p a
+  remaining-all n T p a e b h =
+      let z : n - 0 ≡ n = omega arith in
+      record { eight = e; below = λ t l. rw (N.zero-add t) (b t (omega arith)); wanted = λ t l. all t (omega arith) ∙ rw (z, N.zero-add t) }
+    where
+      all : (t : ℕ) → t < n → T (0 + t) ≡ add q (at a t) (zeroSharing q n (after p w) t)
+      all t l = ap T (N.zero-add t) ∙ h t l ∙ refresh-adds q n (after p w) (at a) (λ s m. reduce-small q (b s m)) t l
 
-            loss : (t : ℕ) → t < n - (i + 1) → at a (i + 1 + t) ≡ sub q (at b (i + 1 + t)) (w (o + t))
-            loss t m =
-                let e : i + 1 + t - (i + 1) ≡ t = omega arith in
-                P .lost (i + 1 + t) (omega arith) (omega arith) ∙ rw e
+  module _ (n : ℕ) (T : ℕ → ℕ) (i o : ℕ) (b : List ℕ) (L : Remaining n T i o b) (h : i < n) (p : ℕ) (a : List ℕ) (eight : length a ≡ 8)
+      (R : Same (n - i) (after i (at a)) (after i (refreshShare q i (i + 1) (n - (i + 1)) (after o w) (at b)))) (k : p ≡ o + (n - (i + 1))) where
+    abbrev whole : n - i ≡ suc (n - (i + 1))
+    whole = omega arith
 
-            next : (t : ℕ) → t < n - (i + 1) → T (i + 1 + t) ≡ add q (at a (i + 1 + t)) (zeroSharing q (n - (i + 1)) (after p w) t)
-            next t m =
-                let e : i + 1 + t ≡ i + suc t = omega arith in
-                let k : p ≡ o + (n - (i + 1)) = omega (arith, P .position) in
-                rw (loss t m, e, k) (L .wanted (suc t) (omega arith) ∙ rw (whole, after-after o (n - (i + 1)) w) (regroup (at b (i + suc t)) _ (neg q (w (o + t)))))
+    first-lt : at b i < q
+    first-lt = rw N.add-zero at (L .below 0 (omega arith))
+
+    pub share-done : at a i ≡ T i
+    unfolding zeroSharing
+    share-done =
+        let z : i + 0 ≡ i = omega arith in
+        rw z at (R 0 (omega arith)) ∙ refreshShare-gains q i (i + 1) (n - (i + 1)) (after o w) (at b) (omega arith) (reduce-small q first-lt) ∙ sym (rw (whole, z) at (L .wanted 0 (omega arith)))
+
+    pub remaining-next : Remaining n T (i + 1) p a
+    unfolding zeroSharing
+    remaining-next = record { eight = eight; below = λ t m. rw (loss t m) (add-lt q (omega (arith, first-lt)) _ _); wanted = λ t m. next t m }
+      where
+        regroup : (x y z : ℕ) → add q x (add q y z) ≡ add q (add q x z) y
+        regroup x y z = ap (add q x) (add-comm q y z) ∙ sym (add-assoc q x z y)
+
+        loss : (t : ℕ) → t < n - (i + 1) → at a (i + 1 + t) ≡ sub q (at b (i + 1 + t)) (w (o + t))
+        loss t m =
+            let e : i + suc t ≡ i + 1 + t = omega arith in
+            rw e at (R (suc t) (omega arith)) ∙ refreshShare-loses q i (i + 1) (n - (i + 1)) (after o w) (at b) t (omega arith) m
+
+        next : (t : ℕ) → t < n - (i + 1) → T (i + 1 + t) ≡ add q (at a (i + 1 + t)) (zeroSharing q (n - (i + 1)) (after p w) t)
+        next t m =
+            let e : i + 1 + t ≡ i + suc t = omega arith in
+            rw (loss t m, e, k) (L .wanted (suc t) (omega arith) ∙ rw (whole, after-after o (n - (i + 1)) w) (regroup (at b (i + suc t)) _ (neg q (w (o + t)))))
 
 -- ---- one bit alone
 

@@ -58,7 +58,7 @@ module _ (q : ℕ) where
   refreshShare-keeps i m (suc c) w A s h l =
       refreshShare-keeps i (suc m) c (λ j. w (suc j)) (transfer q i m (w 0) A) s h (omega arith) ∙ transfer-keeps i m (w 0) A s h (omega arith)
 
-  refreshShare-loses : (i m c : ℕ) (w A : ℕ → ℕ) (t : ℕ) → i < m → t < c → refreshShare q i m c w A (m + t) ≡ sub q (A (m + t)) (w t)
+  pub refreshShare-loses : (i m c : ℕ) (w A : ℕ → ℕ) (t : ℕ) → i < m → t < c → refreshShare q i m c w A (m + t) ≡ sub q (A (m + t)) (w t)
   unfolding refreshShare
   refreshShare-loses i m zero w A t h l = absurd (not-suc-le-zero l)
   refreshShare-loses i m (suc c) w A zero h l =

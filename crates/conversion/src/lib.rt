@@ -6,14 +6,14 @@ use checks::Found;
 use residue::Wide;
 use residue::Word;
 ghost use mathlib.Core.Path.{_≡_};
-ghost use Prim.Native.Nat.{_+_, _*_, _^_, _≤_, _<_};
+ghost use Prim.Native.Nat.{_+_, _-_, _^_, _≤_, _<_};
 ghost use lib.ListN.{length};
 ghost use Rattle.residue.specs.Residue.{sub};
 ghost use Rattle.buffers.specs.Overwrite.{overwrite};
-ghost use Rattle.buffers.specs.Positions.{at, table, after, Below};
+ghost use Rattle.buffers.specs.Positions.{at, table, after, Same, Below};
 ghost use Rattle.checks.specs.Checks.{checked};
 ghost use Rattle.checks.specs.Answers.{checkedReading, outcome};
-ghost use Rattle.conversion.specs.Conversion.{pairs, lessTwice, xorShare, bitsAt, convert, refresh, convertBit, bitWords, valueChecks, converted};
+ghost use Rattle.conversion.specs.Conversion.{pairs, lessTwice, xorShare, bitsAt, convert, refreshShare, refresh, convertBit, bitWords, valueChecks, converted};
 ghost use Rattle.conversion.specs.Secrecy.{BitSecrecy};
 ghost use Rattle.conversion.specs.Arrays.{Holds, Drawn, Modulus};
 
@@ -106,8 +106,33 @@ fn add_share(bits: &[Word; 8], j: usize, q: Word, words: &[Word], start: usize) 
     }
 }
 
+// Step 3 for share i: its pairs with the shares behind it, up to n, take the words from `start` on. Answers the position after the last word.
+fn refresh_share(
+    list: &mut [Word; 8],
+    i: usize,
+    n: usize,
+    q: Word,
+    words: &[Word],
+    start: usize,
+) -> usize
+    requires { ⌜ (i < n) × (n ≤ 8) × Modulus q × (length (now list) ≡ 8) × Below q (n - i) (after i (at (now list))) × Drawn q start (n - (i + 1)) (now words) ⌝ }
+    ensures { λ r. ⌜ (length (now (list .exit)) ≡ 8) × Same (n - i) (after i (at (now (list .exit)))) (after i (refreshShare q i (i + 1) (n - (i + 1)) (after start (at (now (words .entry)))) (at (now (list .entry))))) × (r ≡ start + (n - (i + 1))) ⌝ }
+{
+    let modulus = residue::widen(q);
+    let mut p = start;
+    let mut own = residue::widen(list[i]);
+    for m in i + 1..n {
+        let r = residue::widen(words[p]);
+        own = residue::add(own, r, modulus);
+        list[m] = residue::narrow(residue::sub(residue::widen(list[m]), r, modulus), q);
+        p += 1;
+    }
+    list[i] = residue::narrow(own, q);
+    p
+}
+
 // Step 3: every pair of the n shares of the list, which is used up, takes a word from `start` on. The shares come to stand in front of the row.
-// The last has no pair of its own. Answers the position after the last word.
+// Answers the position after the last word.
 fn refresh(
     list: &mut [Word; 8],
     n: usize,
@@ -116,22 +141,14 @@ fn refresh(
     start: usize,
     row: &mut [Word],
 ) -> usize
-    requires { ⌜ (1 ≤ n) × (n ≤ 8) × Modulus q × (length (now list) ≡ 8) × Below q n (at (now list)) × Drawn q start (pairs n) (now words) × (n ≤ length (now row)) ⌝ }
+    requires { ⌜ (n ≤ 8) × Modulus q × (length (now list) ≡ 8) × Below q n (at (now list)) × Drawn q start (pairs n) (now words) × (n ≤ length (now row)) ⌝ }
     ensures { λ r. ⌜ (now (row .exit) ≡ overwrite (now (row .entry)) 0 (table n (refresh q n (after start (at (now (words .entry)))) (at (now (list .entry)))))) × (r ≡ start + pairs n) ⌝ }
 {
-    let modulus = residue::widen(q);
     let mut p = start;
-    for i in 0..n - 1 {
-        let mut own = residue::widen(list[i]);
-        for m in i + 1..n {
-            let r = residue::widen(words[p]);
-            own = residue::add(own, r, modulus);
-            list[m] = residue::narrow(residue::sub(residue::widen(list[m]), r, modulus), q);
-            p += 1;
-        }
-        row[i] = residue::narrow(own, q);
+    for i in 0..n {
+        p = refresh_share(list, i, n, q, words, p);
+        row[i] = list[i];
     }
-    row[n - 1] = list[n - 1];
     p
 }
 

@@ -6,7 +6,7 @@ use Rattle.buffers.specs.Positions.{at}
 use Rattle.buffers.specs.PositionLaws.{after-at}
 use Rattle.conversion.specs.Conversion.{pairs}
 use Rattle.conversion.specs.Arrays.{drawn-part}
-use Rattle.conversion.proofs.Steps.{pairs-one, pairs-step, one-list, holds-below, share-added}
+use Rattle.conversion.proofs.Steps.{pairs-few, pairs-step, one-list, holds-below, share-added}
 use borrow.Author.Needs.{needs}
 use Prim.Native.Nat.{ℕ, _+_, _-_, _*_, _<_}
 use borrow.Fn.Kinds.{In}
@@ -137,7 +137,7 @@ convert-returns : (t : ℕ) → convert-lts.Need-returns (
 ) (convert-at t) convert.Post
 convert-returns t c =
     let j = c .before .before .before .before .args .j in
-    let e : pairs j ≡ 0 = rw (c .before .before .if1 .taken) pairs-one in
+    let e : pairs j ≡ 0 = pairs-few j (omega (arith, c .before .before .if1 .taken)) in
     (one-list _ _ _ _ _ _ (c .before .before .if1 .taken) refl (c .one-share .ensures), omega arith)
 
 convert-sub-add-share : (t : ℕ) → convert-lts.Need-sub-add-share (

@@ -38,7 +38,6 @@ refresh-requires c κs =
     let e = pairs-twice (s .args .n) in
     let h = s .pre .3 .large in (
       omega arith,
-      omega arith,
       s .pre .3,
       l .0 .eight,
       holds-below _ _ _ _ _ (omega arith) (omega (arith, s .pre .2 0 (omega arith))) (l .0),
