@@ -97,8 +97,9 @@ sub-requires : tie.Need-sub-requires Inv-loop μ-loop
 sub-requires c κs =
     let l = pair (loaded c) .before in
     let m = modulus l in
-    let v = other (pair (loaded c)) in
-    (omega (arith, word (loaded c)), omega (arith, c .widen4 .ensures, v), omega (arith, start l .pre .2 .small))
+    let v : c .widen4 .result < start l .args .q = omega (arith, c .widen4 .ensures, other (pair (loaded c))) in
+    let w = word (loaded c) in
+    (omega arith, omega arith, omega (arith, start l .pre .2 .small))
 
 narrow-requires : tie.Need-narrow-requires Inv-loop μ-loop
 narrow-requires c κs = let l = pair (loaded (c .before)) .before in rw (c .sub .ensures, modulus l) (add-lt _ (omega (arith, start l .pre .2 .large)) _ _)
