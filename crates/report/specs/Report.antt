@@ -1,17 +1,16 @@
 -- The class report (document 02, A.4), as bytes, and the call that makes it.
-use mathlib.Core.Bool.{Bool, cond, not}
-use mathlib.Core.List.{List, [], _∷_, _++_, map}
-use Prim.Native.Nat.{ℕ, _^_}
+use mathlib.Core.Bool.{not}
+use mathlib.Core.List.{List, _++_, map}
+use Prim.Native.Nat.{ℕ}
 use lib.IntN.{ℤ}
 use lib.ListN.{length}
 use Rattle.checks.specs.Checks.{Verdict, accepted, refused, Outcome}
-use Rattle.pairs.specs.Pairs.{pairs}
-use Rattle.tally.specs.Tally.{Line, lines, sumℤ, squares, firstOf, agree}
-use Rattle.text.specs.Text.{decimal, signed, line}
+use Rattle.tally.specs.Tally.{lines, sumℤ, squares, firstOf, agree}
 use Rattle.lesson_file.specs.Records.{Sample}
 use Rattle.lesson_samples.specs.Lesson.{valueOf, Lesson, lesson, endingVerdict}
 use Rattle.lesson_samples.specs.RefusalLine.{refusalLine}
 use Rattle.lesson_samples.specs.Call.{Buffers, pieceWritten}
+use Rattle.report_lines.specs.Lines.{linesText, lastLine}
 
 -- the centred sample of each, and its k
 abbrev pub valuesOf : List Sample → List ℤ
@@ -19,22 +18,6 @@ valuesOf samples = map valueOf samples
 
 abbrev pub lengthsOf : List Sample → List ℕ
 lengthsOf samples = map (λ s. s .k) samples
-
--- the two exact numbers, which a file with mixed k omits
-abbrev pub exactFields : Bool → ℕ → ℕ → List (List ℕ)
-exactFields mixed ways power = cond mixed [] (decimal ways ∷ decimal power ∷ [])
-
--- the sample, how many times it came, the number of pairs of k-bit strings with that difference, and 4 to the power k
-unfoldable pub lineText : Bool → ℕ → Line → List ℕ
-lineText mixed k l = line (signed (l .sample)) (decimal (l .count) ∷ exactFields mixed (pairs k (l .sample)) (4 ^ k))
-
-unfoldable pub linesText : Bool → ℕ → List Line → List ℕ
-linesText mixed k [] = []
-linesText mixed k (l ∷ ls) = lineText mixed k l ++ linesText mixed k ls
-
--- the sum of the samples, the sum of their squares, and how many they are
-unfoldable pub lastLine : ℤ → ℕ → ℕ → List ℕ
-lastLine sum squareSum total = line (signed sum) (decimal squareSum ∷ decimal total ∷ [])
 
 -- of a complete file, whose total is the number of its samples
 unfoldable pub samplesText : List Sample → List ℕ

@@ -25,9 +25,10 @@ use Rattle.lesson_samples.specs.LessonLaws.{lesson-holds}
 use Rattle.lesson_samples.specs.RefusalLine.{endingLine}
 use Rattle.lesson_samples.specs.RefusalLaws.{ending-short}
 use Rattle.lesson_samples.specs.Walk.{whole-holds}
-use Rattle.report.specs.Report.{valuesOf, lengthsOf, exactFields, linesText, lastLine, samplesText, endedText, textOf, reportText, reportRoom}
+use Rattle.report_lines.specs.Lines.{exactFields, linesText, lastLine}
+use Rattle.report_lines.specs.Laws.{length-exact, length-last, line-absent, line-present, firstLines, lines-none, lines-next}
+use Rattle.report.specs.Report.{valuesOf, lengthsOf, samplesText, endedText, textOf, reportText, reportRoom}
 use Rattle.report.specs.Counted.{tallied}
-use Rattle.report.specs.LineLaws.{length-exact, length-last, line-absent, line-present, firstLines, lines-none, lines-next}
 
 -- ---- the samples of a file
 

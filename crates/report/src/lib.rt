@@ -1,6 +1,4 @@
 // The class report (document 02, A.4).
-mod lines;
-
 use checks::Answer;
 use checks::Checked;
 use lesson_file::Cursor;
@@ -65,7 +63,7 @@ fn write_reading(text: &mut [u8], reading: Reading) -> usize
         return lesson_samples::write_refusal(text, 0, refusal);
     }
     let tally = reading.tally;
-    lines::write_tally(text, tally)
+    report_lines::write_tally(text, tally)
 }
 
 // The whole report.

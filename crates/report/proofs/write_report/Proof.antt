@@ -6,8 +6,7 @@ use borrow.Author.Needs.{needs}
 use Rattle.checks.specs.Answers.{checkedReading}
 use Rattle.lesson_samples.specs.Lesson.{lesson}
 use Rattle.report.specs.Report.{reportText}
-use Rattle.report.specs.Counted.{readingText}
-use Rattle.report.specs.LineLaws.{reading-text}
+use Rattle.report.specs.Counted.{readingText, reading-text}
 use Rattle.report.specs.Room.{fit-bits, samples-fit, tallied-room, report-length}
 use Rattle.report.proofs.write_report.Statement.{statement}
 use Rattle.report.proofs.write_report.Tie as tie

@@ -6,10 +6,10 @@ use lib.ListN.{length}
 use borrow.Author.Needs.{needs}
 use Rattle.text.specs.Text.{decimal, spaced}
 use Rattle.text.specs.Laws.{spaced-none, wrote-nothing, wrote-then}
-use Rattle.report.specs.Report.{exactFields}
-use Rattle.report.specs.LineLaws.{exact-pieces, length-exact}
-use Rattle.report.proofs.lines.write_exact.Statement.{statement}
-use Rattle.report.proofs.lines.write_exact.Tie as tie
+use Rattle.report_lines.specs.Lines.{exactFields}
+use Rattle.report_lines.specs.Laws.{exact-pieces, length-exact}
+use Rattle.report_lines.proofs.write_exact.Statement.{statement}
+use Rattle.report_lines.proofs.write_exact.Tie as tie
 
 -- what is required, by the pieces' lengths
 room : (c : tie.Else1) → let a = c .before .before .args in a .at + (2 + length (decimal (a .ways)) + length (decimal (4 ^ a .k))) ≤ length (a .text .now)

@@ -1,5 +1,5 @@
-// The lines of the report. A function that writes answers the position behind what it wrote, and begins at the position that it is given, or in
-// front.
+// The lines of the class report (document 02, A.4), by what was counted. A function that writes answers the position behind what it wrote, and
+// begins at the position that it is given, or in front.
 use tally::Tally;
 ghost use mathlib.Core.Path.{_≡_};
 ghost use mathlib.Core.List.{_∷_};
@@ -10,8 +10,7 @@ ghost use Rattle.pairs.specs.Pairs.{pairs};
 ghost use Rattle.pairs.specs.Rows.{pairRow};
 ghost use Rattle.tally.specs.Tally.{lineOf, sampleAt, linesOf};
 ghost use Rattle.text.specs.Text.{decimal, signed, spaced, line, Wrote};
-ghost use Rattle.report.specs.Report.{exactFields, linesText, lastLine};
-ghost use Rattle.report.specs.Counted.{tallyText};
+ghost use Rattle.report_lines.specs.Lines.{exactFields, linesText, lastLine, tallyText};
 
 // The two exact numbers of a line, which a file with mixed k omits.
 fn write_exact(text: &mut [u8], at: usize, mixed: bool, k: usize, ways: usize) -> usize

@@ -1,4 +1,4 @@
--- The lines, one behind the other, and the text by what was counted.
+-- The pieces of a line, and the lines, one behind the other.
 use mathlib.Core.Path.{_≡_, refl, sym, ap, _∙_}
 use mathlib.Core.Bool.{Bool, false}
 use mathlib.Core.List.{List, [], _∷_, _++_, append-nil, append-assoc}
@@ -8,17 +8,14 @@ use native.Mathlib.Numerals.{add-one}
 use native.Mathlib.Omega.{arith}
 use borrow.Author.Tests.{eq-eqb, ne-eqb}
 use lib.IntN.{ℤ}
-use lib.ListN.{length, length-append, length-map}
+use lib.ListN.{length, length-append}
 use Rattle.pairs.specs.Pairs.{pairs}
 use Rattle.tally.specs.Tally.{Line, lineOf, linesOf, sampleAt}
-use Rattle.tally.specs.LineLaws.{lines-last, lines-counts}
+use Rattle.tally.specs.LineLaws.{lines-last}
 use Rattle.text.specs.Ascii.{ascii}
 use Rattle.text.specs.Text.{decimal, signed, spaced, line}
 use Rattle.text.specs.Laws.{line-three, length-line-three}
-use Rattle.lesson_file.specs.Records.{Sample}
-use Rattle.lesson_samples.specs.Lesson.{valueOf, Lesson, endingVerdict}
-use Rattle.report.specs.Report.{valuesOf, lengthsOf, exactFields, lineText, linesText, lastLine, samplesText, endedText, textOf}
-use Rattle.report.specs.Counted.{tallied, tallyText, readingText}
+use Rattle.report_lines.specs.Lines.{exactFields, lineText, linesText, lastLine}
 
 -- ---- the pieces of a line
 
@@ -80,13 +77,3 @@ module _ (mixed : Bool) (k : ℕ) where
         let f : e + 1 + (32 - e) ≡ 33 = omega arith in
         let l = rw f at (lines-within (32 - e) (e + 1)) in
         omega (arith, l, ap length (lines-next e) ∙ length-append (firstLines e) (linesText mixed k (lineOf (sampleAt e) (n e))))
-
--- ---- by what was counted
-
-counted-text : (samples : List Sample) → tallyText (tallied samples) ≡ samplesText samples
-unfolding tallyText samplesText
-counted-text samples = rw (lines-counts (lengthsOf samples) (valuesOf samples), length-map samples valueOf)
-
-pub reading-text : (l : Lesson) → readingText (tallied (l .samples)) (endingVerdict (l .ending)) ≡ textOf l
-unfolding textOf
-reading-text l = ap (λ (t : List ℕ). endedText t (endingVerdict (l .ending))) (counted-text (l .samples))

@@ -10,11 +10,10 @@ use borrow.Author.Needs.{needs}
 use Rattle.buffers.specs.Positions.{at}
 use Rattle.tally.specs.declared.Tally.{Tally}
 use Rattle.text.specs.Laws.{wrote-then}
-use Rattle.report.specs.Report.{lastLine}
-use Rattle.report.specs.LineLaws.{firstLines}
-use Rattle.report.specs.Counted.{tallyText}
-use Rattle.report.proofs.lines.write_tally.Statement.{statement}
-use Rattle.report.proofs.lines.write_tally.Tie as tie
+use Rattle.report_lines.specs.Lines.{lastLine, tallyText}
+use Rattle.report_lines.specs.Laws.{firstLines}
+use Rattle.report_lines.proofs.write_tally.Statement.{statement}
+use Rattle.report_lines.proofs.write_tally.Tie as tie
 
 text-split : (t : Tally) → length (tallyText t) ≡ length (firstLines (t .mixed) (t .k) (at (t .counts)) 33) + length (lastLine (t .sum) (t .squares) (t .total))
 unfolding tallyText

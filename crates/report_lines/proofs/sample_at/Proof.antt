@@ -4,8 +4,8 @@ use Prim.Native.Nat.{ℕ}
 use lib.IntN.{pos, _-ℤ_}
 use mir.Facts.{toZ-ofZ}
 use borrow.Author.Needs.{needs, sfits-of}
-use Rattle.report.proofs.lines.sample_at.Statement.{statement}
-use Rattle.report.proofs.lines.sample_at.Tie as tie
+use Rattle.report_lines.proofs.sample_at.Statement.{statement}
+use Rattle.report_lines.proofs.sample_at.Tie as tie
 
 cast-from-u16 : tie.Need-cast-from-u16
 cast-from-u16 c = search needs

@@ -9,9 +9,9 @@ use mir.Facts.{toZ-ofZ}
 use borrow.Author.Needs.{needs}
 use Rattle.text.specs.Text.{decimal, signed, spaced}
 use Rattle.text.specs.Laws.{wrote-then, line-pieces, length-line}
-use Rattle.report.specs.Report.{exactFields}
-use Rattle.report.proofs.lines.write_line.Statement.{statement}
-use Rattle.report.proofs.lines.write_line.Tie as tie
+use Rattle.report_lines.specs.Lines.{exactFields}
+use Rattle.report_lines.proofs.write_line.Statement.{statement}
+use Rattle.report_lines.proofs.write_line.Tie as tie
 
 -- the sample is itself when write_signed reads it
 read : (s : tie.Start) → toZ w32 (ofZ w32 (s .args .sample)) ≡ s .args .sample

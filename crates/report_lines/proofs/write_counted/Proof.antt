@@ -9,10 +9,10 @@ use borrow.Author.Needs.{needs, sfits-of}
 use Rattle.tally.specs.Tally.{lineOf, sampleAt}
 use Rattle.text.specs.Text.{decimal, signed, line}
 use Rattle.text.specs.Laws.{wrote-nothing}
-use Rattle.report.specs.Report.{exactFields, linesText}
-use Rattle.report.specs.LineLaws.{line-absent, line-present}
-use Rattle.report.proofs.lines.write_counted.Statement.{statement}
-use Rattle.report.proofs.lines.write_counted.Tie as tie
+use Rattle.report_lines.specs.Lines.{exactFields, linesText}
+use Rattle.report_lines.specs.Laws.{line-absent, line-present}
+use Rattle.report_lines.proofs.write_counted.Statement.{statement}
+use Rattle.report_lines.proofs.write_counted.Tie as tie
 
 -- the line, by what was handed on
 present : (c : tie.After-sample-at) → let a = c .before .before .before .before .args in linesText (a .mixed) (a .k) (lineOf (sampleAt (a .e)) (a .times)) ≡ line (signed (c .sample-at .result)) (decimal (a .times) ∷ exactFields (a .mixed) (a .ways) (4 ^ a .k))

@@ -9,9 +9,9 @@ use mir.Facts.{toZ-ofZ}
 use borrow.Author.Needs.{needs}
 use Rattle.text.specs.Text.{decimal, signed}
 use Rattle.text.specs.Laws.{wrote-then}
-use Rattle.report.specs.LineLaws.{last-pieces, length-last}
-use Rattle.report.proofs.lines.write_last.Statement.{statement}
-use Rattle.report.proofs.lines.write_last.Tie as tie
+use Rattle.report_lines.specs.Laws.{last-pieces, length-last}
+use Rattle.report_lines.proofs.write_last.Statement.{statement}
+use Rattle.report_lines.proofs.write_last.Tie as tie
 
 -- the sum is itself when write_signed reads it
 read : (s : tie.Start) → toZ w32 (ofZ w32 (s .args .sum)) ≡ s .args .sum

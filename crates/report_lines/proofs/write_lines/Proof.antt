@@ -9,9 +9,9 @@ use Rattle.buffers.specs.Positions.{at}
 use Rattle.pairs.specs.Rows.{row-beside}
 use Rattle.text.specs.Text.{Wrote}
 use Rattle.text.specs.Laws.{wrote-nothing, wrote-then}
-use Rattle.report.specs.LineLaws.{firstLines, lines-none, lines-next, line-room}
-use Rattle.report.proofs.lines.write_lines.Statement.{statement}
-use Rattle.report.proofs.lines.write_lines.Tie as tie
+use Rattle.report_lines.specs.Laws.{firstLines, lines-none, lines-next, line-room}
+use Rattle.report_lines.proofs.write_lines.Statement.{statement}
+use Rattle.report_lines.proofs.write_lines.Tie as tie
 
 abbrev Inv-loop : tie.InvT-loop
 Inv-loop text₀ counts row mixed k end₀ e₀ text end e = (e ≤ 33) × Wrote text₀ 0 (firstLines mixed k (at counts) e) text end × (length text ≡ length text₀)
