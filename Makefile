@@ -63,7 +63,7 @@ bench: lib
 test:
 	@tools/prove fmt --check
 	@tools/setup
-	@tools/prove check lesson_file conversion noise lesson_program exam_program polynomial report_program
+	@tools/prove check lesson_file conversion values noise lesson_program exam_program polynomial report_program
 	@$(MAKE) --silent --no-print-directory lib
 	tests/docs
 	tests/setup

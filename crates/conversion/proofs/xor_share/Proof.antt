@@ -1,7 +1,8 @@
 -- The loop's turns up to j write the shares, those behind j nothing; then the bit is added to the first share.
 use mathlib.Core.Logic.{⊎-elim}
 use mathlib.Core.Path.{_≡_, refl, _∙_}
-use Prim.Native.Nat.{_+_, _-_, _≤_, _<_}
+use mathlib.Core.List.{List}
+use Prim.Native.Nat.{ℕ, _+_, _-_, _≤_, _<_}
 use native.Mathlib.Omega.{arith}
 use lib.ListN.{set}
 use Rattle.residue.specs.Laws.{add-cong, add-lt}
@@ -17,18 +18,26 @@ Inv-loop j bit q words start a modulus b c₀ sum₀ i₀ c sum i = (i ≤ 8) ×
 abbrev μ-loop : tie.MeasureT-loop
 μ-loop j bit q words start a modulus b c₀ sum₀ i₀ c sum i = 8 - i
 
+-- the place where the call begins, seen from the loop
+abbrev start : tie.At-loop Inv-loop μ-loop → tie.Start Inv-loop μ-loop
+start c = c .before .before .before .before
+
+-- what holds at the loop, for i turns
+abbrev TurnedAt : tie.At-loop Inv-loop μ-loop → ℕ → List ℕ → ℕ → Type 0
+TurnedAt l = let a = start l .args in Turned (a .q) (a .j) (a .bit) (at (a .t1)) (after (a .start) (at (a .words .now)))
+
 -- the word of a turn
 word : (c : tie.After-widen3 Inv-loop μ-loop) → c .widen3 .result < c .before .before .before .before .before .before .before .before .args .q
 word c = rw (c .widen3 .ensures) (c .before .before .before .before .before .before .before .before .pre .4 .below (c .before .before .before .before .loop .i) (omega arith))
 
 -- a turn before j, at j, and behind it
-below : (c : tie.After-add Inv-loop μ-loop) → Turned (c .before .before .before .before .before .before .before .before .before .before .before .args .q) (c .before .before .before .before .before .before .before .before .before .before .before .args .j) (c .before .before .before .before .before .before .before .before .before .before .before .args .bit) (at (c .before .before .before .before .before .before .before .before .before .before .before .args .t1)) (after (c .before .before .before .before .before .before .before .before .before .before .before .args .start) (at (c .before .before .before .before .before .before .before .before .before .before .before .args .words .now))) (c .before .before .before .before .before .before .before .loop .i + 1) (set (c .before .before .before .before .before .before .before .loop .c) (c .before .before .before .before .before .before .before .loop .i) (c .before .less-twice .result)) (c .add .result)
+below : (c : tie.After-add Inv-loop μ-loop) → let l = c .before .before .before .before .before .before .before in TurnedAt l (l .loop .i + 1) (set (l .loop .c) (l .loop .i) (c .before .less-twice .result)) (c .add .result)
 below c =
     turned-below _ _ _ _ _ _ _ _ (c .before .before .before .before .before .before .before .loop .inv .1) _ _ (omega arith) (omega arith)
     (c .before .less-twice .ensures ∙ rw (c .before .before .before .before .before .before .before .before .widen2 .ensures, c .before .before .widen4 .ensures, c .before .before .before .widen3 .ensures))
     (c .add .ensures ∙ add-cong (c .before .before .before .before .before .before .before .before .before .widen .ensures) refl (c .before .before .before .widen3 .ensures))
 
-reached : (c : tie.After-less-twice2 Inv-loop μ-loop) → Turned (c .before .before .before .before .before .before .before .before .args .q) (c .before .before .before .before .before .before .before .before .args .j) (c .before .before .before .before .before .before .before .before .args .bit) (at (c .before .before .before .before .before .before .before .before .args .t1)) (after (c .before .before .before .before .before .before .before .before .args .start) (at (c .before .before .before .before .before .before .before .before .args .words .now))) (c .before .before .before .before .loop .i + 1) (set (c .before .before .before .before .loop .c) (c .before .before .before .before .loop .i) (c .less-twice2 .result)) (c .before .before .before .before .loop .sum)
+reached : (c : tie.After-less-twice2 Inv-loop μ-loop) → let l = c .before .before .before .before in TurnedAt l (l .loop .i + 1) (set (l .loop .c) (l .loop .i) (c .less-twice2 .result)) (l .loop .sum)
 reached c =
     turned-at _ _ _ _ _ _ _ _ (c .before .before .before .before .loop .inv .1) _ (omega (arith, c .before .before .before .before .before .before .before .before .pre .2 .large)) (omega arith) (c .before .if2 .taken)
     (c .less-twice2 .ensures ∙ rw (c .before .before .before .before .before .widen2 .ensures))
