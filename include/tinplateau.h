@@ -48,9 +48,9 @@ extern "C" {
 #define TP_MAX_FILE 60000
 #define TP_REPORT_ROOM 1200
 
-/* The random words of a converted bit, of a converted string, and of a sample; the words of a sample's work area, which is a polynomial's too; the shares of a
- * polynomial's x, y and output, each, and its random words; the bytes of shared ML-KEM noise, where k is that of the set, and the shares of x and
- * y that they are split into, each; the bytes of a lesson's text buffer. They are of type size_t, and not for #if. */
+/* The random words of a converted bit, of a converted string, and of a sample; the words of a sample's work area, which is a polynomial's too;
+ * the shares of a polynomial's x, y and output, each, and its random words; the bytes of shared ML-KEM noise, where k is that of the set, and
+ * the shares of x and y that they are split into, each; the bytes of a lesson's text buffer. They are of type size_t, and not for #if. */
 #ifdef __cplusplus
 #define TP_SIZE(number) static_cast<size_t>(number)
 #else

@@ -106,22 +106,22 @@ pub front-zeros : (l : List ℕ) (n : ℕ) → Same n (at (overwrite l 0 (replic
 front-zeros l n i h = front-below l (replicate n 0) i (omega (arith, length-replicate {A = ℕ} n 0)) ∙ getD-replicate {A = ℕ} n i 0 0 h
 
 module _ (l : List ℕ) (n : ℕ) (f : ℕ → ℕ) where
-  pub front-at : Same n (at (overwrite l 0 (table n f))) f
-  front-at i h = front-below l (table n f) i (omega (arith, length-table n f)) ∙ table-at n f i h
+  pub front-at : (m : List ℕ) → m ≡ overwrite l 0 (table n f) → Same n (at m) f
+  front-at m e i h = ap (λ (k : List ℕ). at k i) e ∙ front-below l (table n f) i (omega (arith, length-table n f)) ∙ table-at n f i h
 
   pub front-behind : (i : ℕ) → n ≤ i → at (overwrite l 0 (table n f)) i ≡ at l i
   front-behind i h = front-from l (table n f) i (omega (arith, length-table n f))
 
-  pub front-length : n ≤ length l → length (overwrite l 0 (table n f)) ≡ length l
-  front-length h = length-overwrite l 0 (table n f) (omega (arith, length-table n f))
+  pub front-length : (m : List ℕ) → m ≡ overwrite l 0 (table n f) → n ≤ length l → length m ≡ length l
+  front-length m e h = ap length e ∙ length-overwrite l 0 (table n f) (omega (arith, length-table n f))
 
   -- a list that has the values of f in front, and those of l behind
   pub front-values : (m : List ℕ) → n ≤ length l → length m ≡ length l → Same n (at m) f → ((i : ℕ) → n ≤ i → at m i ≡ at l i) → m ≡ overwrite l 0 (table n f)
   front-values m h e a b =
-      sym (table-list (length l) m e) ∙ table-same (length l) _ _ (λ i k. go i (decLt i n)) ∙ table-list (length l) (overwrite l 0 (table n f)) (front-length h)
+      sym (table-list (length l) m e) ∙ table-same (length l) _ _ (λ i k. go i (decLt i n)) ∙ table-list (length l) (overwrite l 0 (table n f)) (front-length _ refl h)
     where
       go : (i : ℕ) → Dec (i < n) → at m i ≡ at (overwrite l 0 (table n f)) i
-      go i (yes k) = a i k ∙ sym (front-at i k)
+      go i (yes k) = a i k ∙ sym (front-at _ refl i k)
       go i (no k) = b i (omega arith) ∙ sym (front-behind i (omega arith))
 
 -- n values in front of a list, written over n others

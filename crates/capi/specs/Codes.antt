@@ -13,7 +13,7 @@ use Rattle.masking.specs.Sharing.{maskChecks, masked, openStringChecks, openedS
 use Rattle.binomial.specs.Signed.{centreChecks, centred, weightChecks, weightDifference}
 use Rattle.binomial.specs.Sets.{setChecks, parameterSet}
 use Rattle.conversion.specs.Conversion.{bitChecks, valueChecks, converted}
-use Rattle.values.specs.Values.{valued}
+use Rattle.values.specs.Values.{convertedValue}
 use Rattle.sampler.specs.Sampler.{sampleChecks, sampled}
 use Rattle.polynomial.specs.Polynomial.{polynomialChecks, sampledPolynomial}
 use Rattle.noise.specs.Split.{noiseChecks, noiseSplit}
@@ -57,8 +57,8 @@ module _ (code position : ℕ) where
   unfolding converted
   convert-bit-code n q bits words start out e = numbered _ (bitChecks n q bits words start (length out)) refl (sym (settled-answer _ _ _) ∙ e)
 
-  pub convert-value-code : (n k q : ℕ) (shares words out : List ℕ) → valued n k q shares words out .answer ≡ refused code position → 0 < code
-  unfolding valued
+  pub convert-value-code : (n k q : ℕ) (shares words out : List ℕ) → convertedValue n k q shares words out .answer ≡ refused code position → 0 < code
+  unfolding convertedValue
   convert-value-code n k q shares words out e = numbered _ (valueChecks n k q shares words 0 (length out)) refl (sym (settled-answer _ _ _) ∙ e)
 
   pub sample-code : (n k q : ℕ) (x y words : List ℕ) (start : ℕ) (out work : List ℕ) → sampled n k q x y words start out work .answer ≡ refused code position → 0 < code

@@ -15,7 +15,7 @@ ghost use Rattle.binomial.specs.Signed.{centred, weightDifference};
 ghost use Rattle.binomial.specs.Sets.{parameterSet};
 ghost use Rattle.conversion.specs.Conversion.{converted};
 ghost use Rattle.conversion.specs.Secrecy.{BitSecrecy};
-ghost use Rattle.values.specs.Values.{valued};
+ghost use Rattle.values.specs.Values.{convertedValue};
 ghost use Rattle.values.specs.Secrecy.{ValueSecrecy};
 ghost use Rattle.sampler.specs.Sampler.{both, sampled};
 ghost use Rattle.sampler.specs.Secrecy.{Secrecy};
@@ -207,7 +207,7 @@ pub extern "C" fn tp_convert_value(
     words: &[Word],
     out: &mut [Word],
 ) -> TpAnswer
-    ensures { λ r. ⌜ returned r (now (out .exit)) ≡ answered (valued n k q (now (shares .entry)) (now (words .entry)) (now (out .entry))) ⌝ }
+    ensures { λ r. ⌜ returned r (now (out .exit)) ≡ answered (convertedValue n k q (now (shares .entry)) (now (words .entry)) (now (out .entry))) ⌝ }
     ensures secrecy { λ _. ⌜ ValueSecrecy n k q ⌝ }
 {
     answer(values::convert_value(n, k, q, shares, words, out))

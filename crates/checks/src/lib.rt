@@ -210,7 +210,7 @@ fn has_room(start: usize, count: usize, length: usize) -> bool
 
 // Checks 8 and 9 of a call that takes `per` words from `start` on for each of its bits. Both numbers have 32 bits, so that their product fits
 // a usize.
-pub fn check_words(words: &[Word], start: usize, bits: u32, per: u32, q: Word) -> Checked
+fn check_words(words: &[Word], start: usize, bits: u32, per: u32, q: Word) -> Checked
     ensures { λ r. ⌜ checkedReading r ≡ checked (wordChecks start (bits * per) q (now (words .entry))) ⌝ }
 {
     if !has_room(start, (bits as usize) * (per as usize), words.len()) {
@@ -243,7 +243,7 @@ pub fn check_output(
     Checked::Passed
 }
 
-// Checks 8 to 11: those, and room in the work area for `totals` words.
+// Checks 8 to 11: those of `check_output`, and room in the work area for `totals` words.
 pub fn check_buffers(
     words: &[Word],
     start: usize,

@@ -134,17 +134,17 @@ module _ (q : ℕ) (w : ℕ → ℕ) where
     pub lost : (t : ℕ) → i < t → t < j → at a t ≡ sub q (at b t) (w (o + (t - (i + 1))))
     pub kept : (t : ℕ) → j ≤ t → at a t ≡ at b t
 
-  module _ (n i o : ℕ) (b : List ℕ) (eight : length b ≡ 8) (below : Below q (n - i) (after i (at b))) (h : i < n) where
-    own-lt : at b i < q
-    own-lt = rw N.add-zero at (below 0 (omega arith))
+  front-lt : (n i : ℕ) (b : List ℕ) → Below q (n - i) (after i (at b)) → i < n → at b i < q
+  front-lt n i b below h = rw N.add-zero at (below 0 (omega arith))
 
+  module _ (n i o : ℕ) (b : List ℕ) (eight : length b ≡ 8) (below : Below q (n - i) (after i (at b))) (h : i < n) where
     pub paired-none : Paired i o b (i + 1) o b (at b i)
     paired-none =
         let z : i + 1 - (i + 1) ≡ 0 = omega arith in
         record {
           eight = eight;
           position = refl;
-          gained = sym (rw z (unfold sum in add-zero q (at b i)) ∙ reduce-small q own-lt);
+          gained = sym (rw z (unfold sum in add-zero q (at b i)) ∙ reduce-small q (front-lt n i b below h));
           lost = λ t l m. absurd (omega arith);
           kept = λ t l. refl;
         }
@@ -168,14 +168,14 @@ module _ (q : ℕ) (w : ℕ → ℕ) where
           rw (P .kept j (omega arith)) (rw e at (below (j - i) (omega arith)))
 
       pub paired-lt : own < q
-      paired-lt = rw (P .gained) (add-lt q (omega (arith, own-lt)) (at b i) (sum q (j - (i + 1)) (after o w)))
+      paired-lt = rw (P .gained) (add-lt q (omega (arith, front-lt n i b below h)) (at b i) (sum q (j - (i + 1)) (after o w)))
 
       -- all pairs, and the share itself written
       pub paired-all : n ≡ j → n ≤ 8 → (v : ℕ) → v ≡ own → Same (n - i) (after i (at (set a i v))) (after i (refreshShare q i (i + 1) (n - (i + 1)) (after o w) (at b)))
       paired-all e m v d zero x =
           let z : i + 0 ≡ i = omega arith in
           let c : j - (i + 1) ≡ n - (i + 1) = omega arith in
-          rw (z, getD-set-same a i v 0 (omega (arith, P .eight)), d, P .gained, c) (sym (refreshShare-gains q i (i + 1) (n - (i + 1)) (after o w) (at b) (omega arith) (reduce-small q own-lt)))
+          rw (z, getD-set-same a i v 0 (omega (arith, P .eight)), d, P .gained, c) (sym (refreshShare-gains q i (i + 1) (n - (i + 1)) (after o w) (at b) (omega arith) (reduce-small q (front-lt n i b below h))))
       paired-all e m v d (suc t) x =
           let z : i + suc t ≡ i + 1 + t = omega arith in
           let k : i + 1 + t - (i + 1) ≡ t = omega arith in
@@ -200,18 +200,15 @@ module _ (q : ℕ) (w : ℕ → ℕ) where
     abbrev whole : n - i ≡ suc (n - (i + 1))
     whole = omega arith
 
-    first-lt : at b i < q
-    first-lt = rw N.add-zero at (L .below 0 (omega arith))
-
     pub share-done : at a i ≡ T i
     unfolding zeroSharing
     share-done =
         let z : i + 0 ≡ i = omega arith in
-        rw z at (R 0 (omega arith)) ∙ refreshShare-gains q i (i + 1) (n - (i + 1)) (after o w) (at b) (omega arith) (reduce-small q first-lt) ∙ sym (rw (whole, z) at (L .wanted 0 (omega arith)))
+        rw z at (R 0 (omega arith)) ∙ refreshShare-gains q i (i + 1) (n - (i + 1)) (after o w) (at b) (omega arith) (reduce-small q (front-lt n i b (L .below) h)) ∙ sym (rw (whole, z) at (L .wanted 0 (omega arith)))
 
     pub remaining-next : Remaining n T (i + 1) p a
     unfolding zeroSharing
-    remaining-next = record { eight = eight; below = λ t m. rw (loss t m) (add-lt q (omega (arith, first-lt)) _ _); wanted = λ t m. next t m }
+    remaining-next = record { eight = eight; below = λ t m. rw (loss t m) (add-lt q (omega (arith, front-lt n i b (L .below) h)) _ _); wanted = λ t m. next t m }
       where
         regroup : (x y z : ℕ) → add q x (add q y z) ≡ add q (add q x z) y
         regroup x y z = ap (add q x) (add-comm q y z) ∙ sym (add-assoc q x z y)

@@ -1,4 +1,5 @@
--- From one shared bit to n numbers: document 01's steps 1, 2 and 3 (source 003, Algorithm 5), and the call.
+-- From one shared bit to n numbers: document 01's steps 1, 2 and 3 (source 003, Algorithm 5), and the call. Of a string, the shares of each bit, and
+-- the checks of a call that converts it.
 -- Shares and words are functions of the position. Shares are counted from 0 here, from 1 on the page.
 use mathlib.Core.Bool.{cond}
 use mathlib.Core.List.{List, [], _∷_, _++_}

@@ -40,5 +40,5 @@ module _ (q n : ℕ) (large : 2 < q) where
   pub row-from : (t start p : ℕ) (x b v : ℕ → ℕ) (before r : List ℕ) → 1 ≤ n → Same n b (bitsAt x t) → p ≡ start + t * bitWords n → r ≡ overwrite before 0 (table n (convertBit q n b (after p v))) → Same n (at r) (row q n x (after start v) t)
   unfolding row
   row-from t start p x b v before r one same e d i h =
-      ap (λ (l : List ℕ). at l i) d ∙ front-at before n _ i h
+      front-at before n _ r d i h
       ∙ convertBit-local q n b (bitsAt x t) (after p v) (after (t * bitWords n) (after start v)) (rw (same 0 one) (bit-below x t)) (bit-below x t) same (λ j k. ap (λ (w : ℕ → ℕ). w j) (after-at start (t * bitWords n) p v e)) i h

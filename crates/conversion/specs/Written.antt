@@ -23,10 +23,10 @@ module _ (checks : List Check) (end : ℕ) (shares out : List ℕ) where
   out-kept n e = settled-keeps (verdict checks end) out (overwrite out 0 shares) (drop n) (drop-front out shares n e)
 
   module _ (h : Hold checks) where
-    pub out-accepted : o ≡ record { answer = accepted end; buffers = overwrite out 0 shares }
+    out-accepted : o ≡ record { answer = accepted end; buffers = overwrite out 0 shares }
     out-accepted = settled-accepted end checks out (overwrite out 0 shares) h
 
-    pub out-shares : (n : ℕ) → length shares ≡ n → take n (o .buffers) ≡ shares
+    out-shares : (n : ℕ) → length shares ≡ n → take n (o .buffers) ≡ shares
     out-shares n e = ap (λ (o : Outcome ℕ (List ℕ)). take n (o .buffers)) out-accepted ∙ take-front out shares n e
 
     -- its shares, with their residue

@@ -12,8 +12,7 @@ use Rattle.checks.specs.Search.{firstFrom}
 use Rattle.checks.specs.Checks.{Verdict, accepted, refused, verdict, Outcome}
 use Rattle.masking.specs.Sharing.{xorAll, maskShares, masked, openedResidue}
 use Rattle.binomial.specs.Signed.{centred}
-use Rattle.conversion.specs.Conversion.{pairs, extend, lessTwice, xorBit, xorShare, convert, transfer, refreshShare, refreshFrom, convertBit}
-use Rattle.conversion.specs.Conversion.{row}
+use Rattle.conversion.specs.Conversion.{pairs, extend, lessTwice, xorBit, xorShare, convert, transfer, refreshShare, refreshFrom, convertBit, row}
 use Rattle.totals.specs.Sample.{stringShare, sampleShare, sampleShares}
 use Rattle.sampler.specs.Sampler.{Buffers, both, sampled}
 

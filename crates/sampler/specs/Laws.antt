@@ -13,9 +13,8 @@ use Rattle.masking.specs.Sharing.{xorAll}
 use Rattle.masking.specs.Xor.{xorAll-lt}
 use Rattle.binomial.specs.Signed.{weight}
 use Rattle.binomial.specs.Weight.{sum-bits, weight-bits}
-use Rattle.conversion.specs.Conversion.{bitWords}
+use Rattle.conversion.specs.Conversion.{bitWords, row}
 use Rattle.conversion.specs.Rows.{row-local, row-sum}
-use Rattle.conversion.specs.Conversion.{row}
 use Rattle.totals.specs.Sample.{stringShare, sampleShare, sampleWords}
 
 module _ (q n : ℕ) (large : 2 < q) where

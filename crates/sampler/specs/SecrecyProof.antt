@@ -1,42 +1,44 @@
 -- Demand 3, proved: the refresh words of the first x bit make up for any difference between two samples but in one share.
-use mathlib.Core.Path.{sym, ap, _∙_}
+use mathlib.Core.Path.{_∙_}
 use mathlib.Core.List.{List}
 use Prim.Native.Nat.{ℕ, zero, suc, _+_, _≤_, _<_}
 use native.Mathlib.Omega.{arith}
 use lib.ListN.{length}
-use Rattle.buffers.specs.Positions.{at, Same}
-use Rattle.buffers.specs.PositionLaws.{after-zero}
+use Rattle.buffers.specs.Positions.{at}
 use Rattle.checks.specs.Laws.{Hold, accepted-holds}
 use Rattle.secrecy.specs.Secrecy.{Full, between, Indistinguishable, AgreeBut}
 use Rattle.secrecy.specs.Laws.{weaken, between-taken, agree-front}
-use Rattle.secrecy.specs.Translation.{indistinguishable}
-use Rattle.conversion.specs.Conversion.{bitWords}
+use Rattle.conversion.specs.Conversion.{bitsAt, bitWords}
 use Rattle.conversion.specs.Arrays.{between-drawn}
-use Rattle.conversion.specs.Translation.{refreshWords}
-use Rattle.totals.specs.Sample.{sampleShare, sampleShares, sampleWords}
+use Rattle.conversion.specs.RowTranslation.{FirstBit, first-bit-secrecy}
+use Rattle.totals.specs.Sample.{sampleShares, sampleWords}
 use Rattle.sampler.specs.Sampler.{pairChecks, sampled}
 use Rattle.sampler.specs.Secrecy.{Samples, Room, Secrecy}
 use Rattle.sampler.specs.Accepted.{pair-large, shared-pair, fit-holds}
 use Rattle.sampler.specs.Calls.{shares-at, call-samples}
-use Rattle.sampler.specs.Translation.{sampleForm, share-form, sample-equivariant}
+use Rattle.sampler.specs.Translation.{otherBits, share-form, others-invariant}
 
 -- ---- the shares
-
-shares-form : (n m q : ℕ) → 2 < q → (x y words : List ℕ) → Same n (at (sampleShares n (suc m) q x y words)) (sampleForm q n m 0 (at x) (at y) (at words))
-shares-form n m q large x y words i l =
-    shares-at n (suc m) q x y words i l ∙ ap (λ (w : ℕ → ℕ). sampleShare q n (suc m) (at x) (at y) w i) (sym (after-zero (at words)))
-    ∙ share-form q n m 0 (at x) (at y) large (at words) i l
 
 pub shares-secrecy : (n k q ℓ : ℕ) → 2 < q → 1 ≤ k → ℓ < n → (x y x′ y′ : List ℕ)
     → Indistinguishable (Full q (sampleWords n k)) (λ words words′. AgreeBut ℓ n (sampleShares n k q x y words) (sampleShares n k q x′ y′ words′))
 shares-secrecy n zero q ℓ large one l x y x′ y′ = absurd (omega arith)
-shares-secrecy n (suc m) q ℓ large one l x y x′ y′ =
-    let positive : 0 < q = omega arith in
-    let fits : 0 + bitWords n ≤ sampleWords n (suc m) = omega arith in
-    weaken (λ v w f g same i b d. shares-form n m q large x y v i b ∙ same i (b, d) ∙ sym (shares-form n m q large x′ y′ w i b))
-    (indistinguishable (refreshWords q positive n ℓ 0 (sampleWords n (suc m)) l fits) positive (sampleForm q n m 0 (at x) (at y)) (sampleForm q n m 0 (at x′) (at y′))
-    (sample-equivariant q n m 0 (at x) (at y) large ℓ (sampleWords n (suc m)) l fits)
-    (sample-equivariant q n m 0 (at x′) (at y′) large ℓ (sampleWords n (suc m)) l fits))
+shares-secrecy n (suc m) q ℓ large one l x y x′ y′ = first-bit-secrecy q n ℓ W large l fits (run x y) (run x′ y′)
+  where
+    W : ℕ
+    W = sampleWords n (suc m)
+
+    fits : 0 + bitWords n ≤ W
+    fits = omega arith
+
+    run : (x y : List ℕ) → FirstBit q n ℓ W large l fits (sampleShares n (suc m) q x y)
+    run x y =
+        record {
+          bits = bitsAt (at x) 0;
+          rest = otherBits q n m (at x) (at y);
+          form = λ words i b. shares-at n (suc m) q x y words i b ∙ share-form q n m (at x) (at y) large (at words) i b;
+          stays = others-invariant q n m (at x) (at y) large ℓ W l fits;
+        }
 
 -- ---- the whole calls
 

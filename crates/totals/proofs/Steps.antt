@@ -6,9 +6,8 @@ use Prim.Native.Nat.{ℕ, _+_, _*_, _≤_, _<_}
 use lib.ListN.{length, drop}
 use Rattle.buffers.specs.Overwrite.{overwrite}
 use Rattle.buffers.specs.Positions.{at, table, after, Same, Below}
-use Rattle.buffers.specs.PositionLaws.{after-at, drop-after, table-same, front-at, front-length, front-values, front-twice}
-use Rattle.conversion.specs.Conversion.{bitWords}
-use Rattle.conversion.specs.Conversion.{row}
+use Rattle.buffers.specs.PositionLaws.{after-at, drop-after, table-same, front-at, front-values, front-twice}
+use Rattle.conversion.specs.Conversion.{bitWords, row}
 use Rattle.totals.specs.Sample.{stringShare, sampleShare, sampleShares}
 use Rattle.totals.specs.Totals.{signedSum, signed-lt, signed-none, signed-next, signed-share}
 
@@ -26,13 +25,10 @@ module _ (n q : ℕ) (pos : 0 < q) (negative : Bool) (x w : ℕ → ℕ) (l : Li
 
   module _ (t : ℕ) (m : List ℕ) (e : m ≡ overwrite l 0 (table n (totals t))) where
     totals-at : Same n (at m) (totals t)
-    totals-at i h = ap (λ (k : List ℕ). at k i) e ∙ front-at l n (totals t) i h
+    totals-at = front-at l n (totals t) m e
 
     pub totals-below : Below q n (at m)
     totals-below i h = rw (totals-at i h) (signed-lt q pos negative _ _)
-
-    pub totals-length : n ≤ length l → length m ≡ length l
-    totals-length h = ap length e ∙ front-length l n (totals t) h
 
     pub totals-next : (u r : List ℕ) → Same n (at r) (row q n x w t) → u ≡ overwrite m 0 (table n (λ i. signedSum q negative (at m i) (at r i))) → u ≡ overwrite l 0 (table n (totals (t + 1)))
     unfolding stringShare
@@ -54,8 +50,8 @@ totals-shares n k q start half x y words work first second pos z e h d =
 
     share : Same n (at second) (sampleShare q n k (at x) (at y) w)
     share i l =
-        ap (λ (m : List ℕ). at m i) d ∙ front-at first n _ i l
-        ∙ ap₂ (signedSum q true) (ap (λ (m : List ℕ). at m i) e ∙ front-at work n _ i l ∙ ap (λ (a : ℕ). signedSum q false a (stringShare q n k (at x) w i)) (z i l))
+        front-at first n _ second d i l
+        ∙ ap₂ (signedSum q true) (front-at work n _ first e i l ∙ ap (λ (a : ℕ). signedSum q false a (stringShare q n k (at x) w i)) (z i l))
         (ap (λ (v : ℕ → ℕ). stringShare q n k (at y) v i) (after-at start (k * bitWords n) half (at words) h))
         ∙ signed-share q pos n k (at x) (at y) w i
 

@@ -3,10 +3,9 @@ use mathlib.Core.Path.{_≡_, refl, sym, ap, ap₂, _∙_}
 use mathlib.Core.List.{List}
 use Prim.Native.Nat.{ℕ, _+_, _-_, _*_, _≤_, _<_}
 use native.Mathlib.Omega.{arith}
-use lib.ListN.{length, replicate}
 use Rattle.buffers.specs.Overwrite.{overwrite}
 use Rattle.buffers.specs.Positions.{at, table, Same, Below}
-use Rattle.buffers.specs.PositionLaws.{table-same, table-zeros, front-at, front-length, front-twice}
+use Rattle.buffers.specs.PositionLaws.{table-same, front-at, front-twice}
 use Rattle.conversion.specs.Conversion.{row}
 use Rattle.values.specs.Values.{valueShare}
 use Rattle.values.specs.Doubling.{doubled, binary-lt, upper, upper-none, upper-next, upper-all}
@@ -23,15 +22,9 @@ module _ (q n k : ℕ) (x w : ℕ → ℕ) where
   upperShares t i = upper q k (λ s. row q n x w s i) t
 
   -- before the first turn, n zeros over what the output held
-  module _ (l z : List ℕ) (e : z ≡ overwrite l 0 (replicate n 0)) where
-    zeros : z ≡ overwrite l 0 (table n (λ i. 0))
-    zeros = e ∙ ap (overwrite l 0) (table-zeros n)
-
+  module _ (l z : List ℕ) (zeros : z ≡ overwrite l 0 (table n (λ i. 0))) where
     pub upper-start : z ≡ overwrite z 0 (table n (upperShares k))
     upper-start = zeros ∙ ap (overwrite l 0) (table-same n _ _ (λ i h. sym (upper-none q k (λ s. row q n x w s i)))) ∙ sym (front-twice n (λ i. 0) (upperShares k) l z _ zeros refl)
-
-    pub zeros-length : n ≤ length l → length z ≡ length l
-    zeros-length h = ap length zeros ∙ front-length l n (λ i. 0) h
 
     -- behind the last, the shares of the value
     pub upper-end : (t : ℕ) (m : List ℕ) → t ≡ 0 → m ≡ overwrite z 0 (table n (upperShares t)) → m ≡ overwrite l 0 (table n (valueShare q n k x w))
@@ -40,13 +33,10 @@ module _ (q n k : ℕ) (x w : ℕ → ℕ) where
 
   module _ (t : ℕ) (z m : List ℕ) (e : m ≡ overwrite z 0 (table n (upperShares t))) where
     upper-at : Same n (at m) (upperShares t)
-    upper-at i h = ap (λ (l : List ℕ). at l i) e ∙ front-at z n (upperShares t) i h
+    upper-at = front-at z n (upperShares t) m e
 
     pub upper-below : 0 < q → Below q n (at m)
     upper-below positive i h = rw (upper-at i h) (binary-lt q positive (k - t) _)
-
-    pub upper-length : n ≤ length z → length m ≡ length z
-    upper-length h = ap length e ∙ front-length z n (upperShares t) h
 
     -- a turn puts in the bit below
     pub upper-turn : (r u : List ℕ) → 0 < t → t ≤ k → Same n (at r) (row q n x w (t - 1)) → u ≡ overwrite m 0 (table n (λ i. doubled q (at m i) (at r i))) → u ≡ overwrite z 0 (table n (upperShares (t - 1)))

@@ -19,7 +19,7 @@ use Rattle.conversion.specs.Laws.{bitWords-some}
 use Rattle.conversion.specs.Accepted.{SharedString, shared-string, fit-first}
 use Rattle.conversion.specs.Written.{out-answer, out-kept, out-converts, out-words}
 use Rattle.conversion.specs.Secrecy.{Converts}
-use Rattle.values.specs.Values.{valueShare, valueShares, valued}
+use Rattle.values.specs.Values.{valueShare, valueShares, convertedValue}
 use Rattle.values.specs.Laws.{share-lt, share-local, share-sum}
 
 pub length-shares : (n k q : ℕ) (x words : List ℕ) → length (valueShares n k q x words) ≡ n
@@ -63,20 +63,20 @@ module _ (n k q : ℕ) (x words out : List ℕ) where
   taken = take (valueWords n k) words
 
   -- output positions past n keep their content
-  pub kept : drop n (valued n k q x words out .buffers) ≡ drop n out
-  unfolding valued
+  pub kept : drop n (convertedValue n k q x words out .buffers) ≡ drop n out
+  unfolding convertedValue
   kept = out-kept (valueChecks n k q x words 0 (length out)) (valueWords n k) (valueShares n k q x words) out n (length-shares n k q x words)
 
   -- words behind those that it takes do not matter, whether it is accepted or refused
-  pub call-words : (words′ : List ℕ) → taken ≡ take (valueWords n k) words′ → valued n k q x words out ≡ valued n k q x words′ out
-  unfolding valued
+  pub call-words : (words′ : List ℕ) → taken ≡ take (valueWords n k) words′ → convertedValue n k q x words out ≡ convertedValue n k q x words′ out
+  unfolding convertedValue
   call-words words′ e =
       out-words (stringChecks n k q x) 0 (valueWords n k) q n words words′ (valueShares n k q x words) (valueShares n k q x words′) out e
       (λ h. let S = shared-string n k q x h in (omega (arith, mul-le-mul (S .one) (bitWords-some n (S .two))), shares-words S words words′ e)) (valueWords n k)
 
   -- the answer depends on the length of the output, not on what it held
-  pub answer-before : (out′ : List ℕ) → length out ≡ length out′ → valued n k q x words out .answer ≡ valued n k q x words out′ .answer
-  unfolding valued
+  pub answer-before : (out′ : List ℕ) → length out ≡ length out′ → convertedValue n k q x words out .answer ≡ convertedValue n k q x words out′ .answer
+  unfolding convertedValue
   answer-before out′ e =
       out-answer (valueChecks n k q x words 0 (length out)) (valueWords n k) (valueShares n k q x words) out ∙ ap (λ (room : ℕ). verdict (valueChecks n k q x words 0 room) (valueWords n k)) e
       ∙ sym (out-answer (valueChecks n k q x words 0 (length out′)) (valueWords n k) (valueShares n k q x words) out′)
@@ -88,30 +88,30 @@ module _ (n k q : ℕ) (x words out : List ℕ) where
     string-checks = fit-first (stringChecks n k q x) 0 (valueWords n k) q words n (length out) [] h
 
     -- is accepted with the number of its words, and its shares are those of its words
-    pub call-converts : Converts n q (valueWords n k) (valueShares n k q x taken) (reduce q (xorAll x)) (valued n k q x words out)
-    unfolding valued
+    pub call-converts : Converts n q (valueWords n k) (valueShares n k q x taken) (reduce q (xorAll x)) (convertedValue n k q x words out)
+    unfolding convertedValue
     call-converts =
         let S = shared-string n k q x string-checks in
         out-converts (valueChecks n k q x words 0 (length out)) (valueWords n k) (valueShares n k q x words) out h n q (reduce q (xorAll x)) (valueShares n k q x taken) (length-shares n k q x words)
         (shares-words S words taken (sym (take-take (valueWords n k) (valueWords n k) words (le-refl _)))) (shares-residue S taken)
 
-    -- what the shares open to is, modulo q, what the string opens to
+    -- the string opens, and the shares open to its number modulo q
     pub string-opened : openedString n k x ≡ accepted (xorAll x)
     unfolding openedString
     string-opened =
         let g = string-checks in
         accepts (xorAll x) (openStringChecks n k x) (g .0, (g .1 .0, (g .1 .1 .1 .0, (g .1 .1 .1 .1 .0, tt))))
 
-    pub shares-opened : openedResidue n q (take n (valued n k q x words out .buffers)) ≡ accepted (reduce q (xorAll x))
+    pub shares-opened : openedResidue n q (take n (convertedValue n k q x words out .buffers)) ≡ accepted (reduce q (xorAll x))
     unfolding openedResidue
     shares-opened =
         let S = shared-string n k q x string-checks in
         let c = call-converts in
-        let b : EachBelow q (take n (valued n k q x words out .buffers)) = rw (c .shares) (shares-below S taken) in
-        accepts _ (openResidueChecks n q (take n (valued n k q x words out .buffers))) (string-checks .0, (le-leb 3 q (S .modulus), (eq-eqb _ _ (ap length (c .shares) ∙ length-shares n k q x taken), (ap isNone (each-below-none q _ 0 b), tt))))
+        let b : EachBelow q (take n (convertedValue n k q x words out .buffers)) = rw (c .shares) (shares-below S taken) in
+        accepts _ (openResidueChecks n q (take n (convertedValue n k q x words out .buffers))) (string-checks .0, (le-leb 3 q (S .modulus), (eq-eqb _ _ (ap length (c .shares) ∙ length-shares n k q x taken), (ap isNone (each-below-none q _ 0 b), tt))))
         ∙ ap accepted (c .residue)
 
 -- the shares do not depend on what the output held
 pub shares-before : (n k q : ℕ) (x words out out′ : List ℕ) → Hold (valueChecks n k q x words 0 (length out)) → Hold (valueChecks n k q x words 0 (length out′))
-    → take n (valued n k q x words out .buffers) ≡ take n (valued n k q x words out′ .buffers)
+    → take n (convertedValue n k q x words out .buffers) ≡ take n (convertedValue n k q x words out′ .buffers)
 shares-before n k q x words out out′ h h′ = call-converts n k q x words out h .shares ∙ sym (call-converts n k q x words out′ h′ .shares)

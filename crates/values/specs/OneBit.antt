@@ -2,7 +2,6 @@
 use mathlib.Core.Path.{_≡_, ap, _∙_}
 use mathlib.Core.List.{List, []}
 use Prim.Native.Nat.{ℕ, _+_}
-use native.Mathlib.Nat as N
 use native.Mathlib.Omega.{arith}
 use lib.ListN.{length, drop}
 use Rattle.residue.specs.Residue.{add, sum}
@@ -18,7 +17,7 @@ use Rattle.conversion.specs.Laws.{convertBit-local}
 use Rattle.conversion.specs.Rows.{bit-below, row-lt}
 use Rattle.conversion.specs.Accepted.{SharedString, shared-string, first-lt, fit-first}
 use Rattle.conversion.specs.Calls.{bit-checks}
-use Rattle.values.specs.Values.{binarySum, valueShare, valueShares, valued}
+use Rattle.values.specs.Values.{binarySum, valueShare, valueShares, convertedValue}
 
 module _ (n q : ℕ) (bits words : List ℕ) where
   -- the shares are those of the bit
@@ -29,8 +28,8 @@ module _ (n q : ℕ) (bits words : List ℕ) where
       row-bit : Same n (row q n (at bits) (at words) 0) (convertBit q n (at bits) (at words))
       row-bit = unfold row in convertBit-local q n (bitsAt (at bits) 0) (at bits) _ (at words) (bit-below q n (S .modulus) (at bits) 0) (first-lt S) (λ j m. bit-lowest (at bits j) ∙ omega (arith, S .below j m)) (λ j m. ap (at words) (omega arith))
 
-  pub one-bit : (out : List ℕ) → valued n 1 q bits words out ≡ converted n q bits words 0 out
-  unfolding valued converted
+  pub one-bit : (out : List ℕ) → convertedValue n 1 q bits words out ≡ converted n q bits words 0 out
+  unfolding convertedValue converted
   one-bit out =
       settled-same (verdict (valueChecks n 1 q bits words 0 (length out)) (valueWords n 1)) out _ (overwrite out 0 (bitShares n q bits (drop 0 words)))
       (λ a e. ap (overwrite out 0) (shares-bit (shared-string n 1 q bits (fit-first (stringChecks n 1 q bits) 0 (valueWords n 1) q words n (length out) [] (accepted-holds (valueWords n 1) a _ e)))))

@@ -1,4 +1,5 @@
--- Values, and not only bits (document 02, A.7; the general conversion of source 003): n shares modulo q of the number of a shared string.
+-- Values, and not only bits (document 02, A.7; source 003, Algorithm 9): n shares modulo q of the number of a shared string. The bits take their words
+-- from bit 0 up, and q may be smaller than the number, as document 02 has it.
 -- Shares and words are functions of the position. Shares are counted from 0 here, from 1 on the page.
 use mathlib.Core.List.{List}
 use Prim.Native.Nat.{ℕ, _^_}
@@ -20,5 +21,5 @@ unfoldable pub valueShares : ℕ → ℕ → ℕ → List ℕ → List ℕ → L
 valueShares n k q shares words = table n (valueShare q n k (at shares) (at words))
 
 -- The call takes the words from position 0 on and answers how many.
-unfoldable pub valued : ℕ → ℕ → ℕ → List ℕ → List ℕ → List ℕ → Outcome ℕ (List ℕ)
-valued n k q shares words out = sharesOut (valueChecks n k q shares words 0 (length out)) (valueWords n k) (valueShares n k q shares words) out
+unfoldable pub convertedValue : ℕ → ℕ → ℕ → List ℕ → List ℕ → List ℕ → Outcome ℕ (List ℕ)
+convertedValue n k q shares words out = sharesOut (valueChecks n k q shares words 0 (length out)) (valueWords n k) (valueShares n k q shares words) out

@@ -1,4 +1,4 @@
-// The number of a shared string to n shares modulo q (document 02, A.7; the general conversion of source 003).
+// The number of a shared string to n shares modulo q (document 02, A.7; source 003, Algorithm 9).
 // No branch, index, comparison, division or remainder depends on a share, a bit or a random word behind the checks.
 use checks::Answer;
 use checks::Checked;
@@ -11,7 +11,7 @@ ghost use Rattle.buffers.specs.Positions.{at, table, after, Below};
 ghost use Rattle.checks.specs.Answers.{outcome};
 ghost use Rattle.conversion.specs.Conversion.{valueWords};
 ghost use Rattle.conversion.specs.Arrays.{Drawn, Modulus};
-ghost use Rattle.values.specs.Values.{valueShare, valued};
+ghost use Rattle.values.specs.Values.{valueShare, convertedValue};
 ghost use Rattle.values.specs.Doubling.{doubled};
 ghost use Rattle.values.specs.Secrecy.{ValueSecrecy};
 
@@ -72,7 +72,7 @@ pub fn convert_value(
     words: &[Word],
     out: &mut [Word],
 ) -> Answer
-    ensures { λ r. ⌜ outcome r (now (out .exit)) ≡ valued n k q (now (shares .entry)) (now (words .entry)) (now (out .entry)) ⌝ }
+    ensures { λ r. ⌜ outcome r (now (out .exit)) ≡ convertedValue n k q (now (shares .entry)) (now (words .entry)) (now (out .entry)) ⌝ }
     ensures secrecy { λ _. ⌜ ValueSecrecy n k q ⌝ }
 {
     if let Checked::Failed(r) = conversion::check_value(n, k, q, shares, words, 0, out.len()) {

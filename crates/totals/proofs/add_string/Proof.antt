@@ -9,11 +9,10 @@ use Rattle.buffers.specs.Positions.{at, table, after, Same, Below}
 use Rattle.buffers.specs.PositionLaws.{front-length}
 use Rattle.buffers.specs.Blocks.{block-fits}
 use Rattle.checks.specs.Width.{bit-lt}
-use Rattle.conversion.specs.Conversion.{bitsAt, bitWords}
+use Rattle.conversion.specs.Conversion.{bitsAt, bitWords, row}
 use Rattle.conversion.specs.Arrays.{drawn-part}
-use Rattle.conversion.specs.Conversion.{row}
 use Rattle.conversion.specs.Rows.{row-lt, row-from}
-use Rattle.totals.proofs.Steps.{totalsOf, totals-none, totals-below, totals-length, totals-next}
+use Rattle.totals.proofs.Steps.{totalsOf, totals-none, totals-below, totals-next}
 use Rattle.totals.proofs.add_string.Statement.{statement}
 use Rattle.totals.proofs.add_string.Tie as tie
 
@@ -41,7 +40,7 @@ below : (c : tie.At-loop Inv-loop μ-loop) → Below (start c .args .q) (start c
 below c = let s = start c in totals-below _ _ (positive s) (s .args .negative) (at (s .args .shares .now)) (words s) _ (c .loop .bit) _ (c .loop .inv .3)
 
 room : (c : tie.At-loop Inv-loop μ-loop) → length (c .loop .work) ≡ length (start c .args .work .now)
-room c = let s = start c in totals-length _ _ (positive s) (s .args .negative) (at (s .args .shares .now)) (words s) _ (c .loop .bit) _ (c .loop .inv .3) (s .pre .5)
+room c = front-length _ _ _ _ (c .loop .inv .3) (start c .pre .5)
 
 -- the bits of a turn, and its row
 bits : (c : tie.After-bits-at Inv-loop μ-loop) → let s = start (c .before .before) in Same (s .args .n) (at (c .bits-at .result)) (bitsAt (at (s .args .shares .now)) (c .before .before .loop .bit))
@@ -95,7 +94,7 @@ loop-again c =
     let s = start (t .before) in (
       omega arith,
       omega (arith, l .inv .1, d .convert-at .ensures .1),
-      ap length (d .convert-at .ensures .0) ∙ front-length _ _ _ (omega (arith, l .inv .2, s .pre .1)) ∙ l .inv .2,
+      front-length _ _ _ _ (d .convert-at .ensures .0) (omega (arith, l .inv .2, s .pre .1)) ∙ l .inv .2,
       totals-next _ _ (positive s) (s .args .negative) (at (s .args .shares .now)) (words s) _ (l .bit) _ (l .inv .3) _ (d .convert-at .last .1 .1 .1 .1 .1 .0) (made d) (e .add-row .ensures),
     )
 

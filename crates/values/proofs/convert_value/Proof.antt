@@ -13,7 +13,7 @@ use Rattle.checks.specs.Answers.{outcome}
 use Rattle.checks.specs.Laws.{Hold, checks-hold, settles-accepted, settles-refused}
 use Rattle.conversion.specs.Conversion.{valueWords, stringChecks, valueChecks}
 use Rattle.conversion.specs.Accepted.{SharedString, shared-string, fit-first, fit-drawn, fit-room}
-use Rattle.values.specs.Values.{valueShares, valued}
+use Rattle.values.specs.Values.{valueShares, convertedValue}
 use Rattle.values.specs.Calls.{shares-made}
 use Rattle.values.specs.SecrecyProof.{value-secrecy}
 use Rattle.values.proofs.convert_value.Statement.{statement}
@@ -32,7 +32,7 @@ holds c = checks-hold _ _ (c .before .before .check-value .ensures) (c .enum-tol
 shared : (c : tie.After-enum-told) → let a = start c .args in SharedString (a .n) (a .k) (a .q) (a .shares .now)
 shared c = let a = start c .args in shared-string _ _ _ _ (fit-first (stringChecks (a .n) (a .k) (a .q) (a .shares .now)) 0 (valueWords (a .n) (a .k)) (a .q) (a .words .now) (a .n) (length (a .out .now)) [] (holds c))
 
--- the shares stand in front of the array
+-- what is written: the shares of the written steps
 written : (c : tie.After-write-value) → let a = start (passed c) .args in c .write-value .last .1 .1 .1 .1 .1 .1 .0 ≡ overwrite (a .out .now) 0 (valueShares (a .n) (a .k) (a .q) (a .shares .now) (a .words .now))
 written c =
     let a = start (passed c) .args in
@@ -47,7 +47,7 @@ enum-known-r : tie.Need-enum-known-r
 enum-known-r c = search needs
 
 returns : tie.Need-returns
-unfolding valued
+unfolding convertedValue
 returns c = (settles-refused _ _ (c .before .before .before .check-value .ensures) _ _ _ _ (c .before .r .given .1), value-secrecy _ _ _)
 
 enum-told : tie.Need-enum-told
@@ -71,7 +71,7 @@ same-length : tie.Need-same-length
 same-length c = search needs
 
 returns-2 : tie.Need-returns-2
-unfolding valued
+unfolding convertedValue
 returns-2 c =
     let w = c .before .before in
     let t = passed w in (

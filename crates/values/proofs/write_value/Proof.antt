@@ -7,13 +7,13 @@ use lib.ListN.{length}
 use borrow.Author.Needs.{needs}
 use Rattle.buffers.specs.Overwrite.{overwrite}
 use Rattle.buffers.specs.Positions.{at, table, after, Same, Below}
-use Rattle.buffers.specs.PositionLaws.{front-length}
+use Rattle.buffers.specs.PositionLaws.{table-zeros, front-length}
 use Rattle.buffers.specs.Blocks.{block-fits}
 use Rattle.checks.specs.Width.{bit-lt}
 use Rattle.conversion.specs.Conversion.{bitsAt, bitWords, row}
 use Rattle.conversion.specs.Arrays.{drawn-part}
 use Rattle.conversion.specs.Rows.{row-lt, row-from}
-use Rattle.values.proofs.Steps.{block-before, upperShares, upper-start, zeros-length, upper-end, upper-below, upper-length, upper-turn}
+use Rattle.values.proofs.Steps.{block-before, upperShares, upper-start, upper-end, upper-below, upper-turn}
 use Rattle.values.proofs.write_value.Statement.{statement}
 use Rattle.values.proofs.write_value.Tie as tie
 
@@ -50,11 +50,14 @@ words-le s =
 below : (c : tie.At-loop Inv-loop μ-loop) → Below (start c .args .q) (start c .args .n) (at (c .loop .out))
 below c = let s = start c in upper-below _ _ (s .args .k) (at (s .args .shares .now)) (words s) (c .loop .t) _ _ (c .loop .inv .3) (positive s)
 
+zeros : (c : tie.After-zero Inv-loop μ-loop) → let a = c .before .before .before .before .args in c .zero .last .0 ≡ overwrite (a .out .now) 0 (table (a .n) (λ i. 0))
+zeros c = c .zero .ensures ∙ ap (overwrite _ 0) (table-zeros _)
+
 room : (c : tie.At-loop Inv-loop μ-loop) → length (c .loop .out) ≡ length (start c .args .out .now)
 room c =
-    let s = start c in
-    let z = zeros-length (s .args .q) (s .args .n) (s .args .k) (at (s .args .shares .now)) (words s) _ _ (cleared c .zero .ensures) (s .pre .5) in
-    upper-length _ _ (s .args .k) (at (s .args .shares .now)) (words s) (c .loop .t) _ _ (c .loop .inv .3) (omega (arith, s .pre .5)) ∙ z
+    let h = start c .pre .5 in
+    let z = front-length _ _ _ _ (zeros (cleared c)) h in
+    front-length _ _ _ _ (c .loop .inv .3) (omega (arith, h)) ∙ z
 
 -- the bits of a turn, where their words begin, and their row
 bits : (c : tie.After-bits-at Inv-loop μ-loop) → let s = start (c .before .before) in Same (s .args .n) (at (c .bits-at .result)) (bitsAt (at (s .args .shares .now)) (c .before .before .loop .t - 1))
@@ -89,7 +92,7 @@ zero-requires c κs = let s = c .before .before .before in (s .pre .1, s .pre .5
 loop-holds : tie.Need-loop-holds Inv-loop μ-loop
 loop-holds c =
     let s = c .before .before .before .before .before .before in
-    (omega arith, omega arith, refl, upper-start (s .args .q) (s .args .n) (s .args .k) (at (s .args .shares .now)) (words s) _ _ (c .before .before .zero .ensures))
+    (omega arith, omega arith, refl, upper-start (s .args .q) (s .args .n) (s .args .k) (at (s .args .shares .now)) (words s) _ _ (zeros (c .before .before)))
 
 sub-t : tie.Need-sub-t Inv-loop μ-loop
 sub-t c = search needs
@@ -132,7 +135,7 @@ loop-again c =
     let s = start (t .before) in (
       omega (arith, l .inv .0),
       position t,
-      ap length (d .convert-at .ensures .0) ∙ front-length _ _ _ (omega (arith, l .inv .2, s .pre .1)) ∙ l .inv .2,
+      front-length _ _ _ _ (d .convert-at .ensures .0) (omega (arith, l .inv .2, s .pre .1)) ∙ l .inv .2,
       upper-turn _ _ (s .args .k) (at (s .args .shares .now)) (words s) (l .t) _ _ (l .inv .3) (d .convert-at .last .1 .1 .1 .1 .1 .0) _ (t .loop-test .taken) (l .inv .0) (made d) (e .double-and-add .ensures),
     )
 
@@ -143,7 +146,7 @@ returns : tie.Need-returns Inv-loop μ-loop
 returns c =
     let l = c .before .loop in
     let s = start (c .before) in
-    (upper-end (s .args .q) (s .args .n) (s .args .k) (at (s .args .shares .now)) (words s) _ _ (cleared (c .before) .zero .ensures) (l .t) _ (omega arith) (l .inv .3), refl)
+    (upper-end (s .args .q) (s .args .n) (s .args .k) (at (s .args .shares .now)) (words s) _ _ (zeros (cleared (c .before))) (l .t) _ (omega arith) (l .inv .3), refl)
 
 pub write-value-spec : {M : Type 1} → statement M
 write-value-spec =
