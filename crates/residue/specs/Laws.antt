@@ -42,10 +42,6 @@ module _ (q : ℕ) where
   unfolding reduce add
   reduce-add a b = mod-mod (a + b) q
 
-  pub reduce-mul : (a b : ℕ) → reduce q (mul q a b) ≡ mul q a b
-  unfolding reduce mul
-  reduce-mul a b = mod-mod (a * b) q
-
   pub reduce-neg : (a : ℕ) → reduce q (neg q a) ≡ neg q a
   unfolding reduce neg
   reduce-neg a = mod-mod (q - a % q) q
@@ -115,20 +111,10 @@ module _ (q : ℕ) where
 
   -- ---- products
 
-  pub mul-comm : (a b : ℕ) → mul q a b ≡ mul q b a
-  unfolding mul
-  mul-comm a b = ap (λ (z : ℕ). z % q) (omega arith)
-
   -- a product of numbers, taken in two steps
   pub mul-times : (a b c : ℕ) → mul q (a * b) c ≡ mul q a (mul q b c)
   unfolding mul
   mul-times a b c = sym (unfold reduce in (mul-reduce a (b * c)) ∙ ap (λ (z : ℕ). z % q) (omega arith))
-
-  pub mul-assoc : (a b c : ℕ) → mul q (mul q a b) c ≡ mul q a (mul q b c)
-  mul-assoc a b c = mul-comm (mul q a b) c ∙ sym (mul-times c a b) ∙ turned ∙ mul-times a b c
-    where
-      turned : mul q (c * a) b ≡ mul q (a * b) c
-      turned = unfold mul in ap (λ (z : ℕ). z % q) (omega arith)
 
   pub mul-add : (c a b : ℕ) → mul q c (add q a b) ≡ add q (mul q c a) (mul q c b)
   unfolding add mul
@@ -195,9 +181,6 @@ module _ (q : ℕ) where
 
     pub add-sub-cancel : (a b : ℕ) → sub q (add q a b) b ≡ reduce q a
     add-sub-cancel a b = rw (add-assoc, add-neg, add-zero)
-
-    pub sub-sub : (a b : ℕ) → sub q a (sub q a b) ≡ reduce q b
-    sub-sub a b = rw (neg-add, neg-neg, ← add-assoc, add-neg, zero-add, reduce-reduce)
 
     -- the difference is the one number below q whose sum with b is a
     pub sub-unique : (a b d : ℕ) → d < q → reduce q (d + b) ≡ reduce q a → d ≡ sub q a b
