@@ -75,10 +75,8 @@ test:
 	tests/archive
 	tests/frames
 	tests/header
-	tests/install
-	tests/library
-	tests/c_client
-	tests/machine_code
+	tests/beside tests/install tests/machine_code
+	tests/beside tests/library tests/c_client
 	@tools/prove ci
 
 clean:
