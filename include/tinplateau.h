@@ -19,7 +19,7 @@
 
 /* MINOR rises with a new call, MAJOR where a call or the meaning of an answer changes. */
 #define TINPLATEAU_VERSION_MAJOR 3
-#define TINPLATEAU_VERSION_MINOR 1
+#define TINPLATEAU_VERSION_MINOR 2
 
 /* Has the compiler warn where an answer is dropped; gcc does so in C in spite of a cast to void. Defined as nothing (-DTP_NODISCARD=) it is
  * off. */
@@ -49,7 +49,7 @@ extern "C" {
 #define TP_REPORT_ROOM 1200
 
 /* The random words of a converted bit, of a converted string, and of a sample; the words of a sample's work area, which is a polynomial's too;
- * the shares of a polynomial's x, y and output, each, and its random words; the bytes of shared ML-KEM noise, where k is that of the set, and
+ * the step records of a sample, and their bytes; the shares of a polynomial's x, y and output, each, and its random words; the bytes of shared ML-KEM noise, where k is that of the set, and
  * the shares of x and y that they are split into, each; the bytes of a lesson's text buffer. They are of type size_t, and not for #if. */
 #ifdef __cplusplus
 #define TP_SIZE(number) static_cast<size_t>(number)
@@ -60,6 +60,8 @@ extern "C" {
 #define TP_VALUE_WORDS(n, k) (TP_SIZE(k) * TP_BIT_WORDS(n))
 #define TP_SAMPLE_WORDS(n, k) (2 * TP_SIZE(k) * TP_BIT_WORDS(n))
 #define TP_SAMPLE_WORK(n) TP_SIZE(n)
+#define TP_STEP_RECORDS(n, k) (2 * TP_SIZE(k) * (5 * TP_SIZE(n) * (TP_SIZE(n) + 1) / 2 - 3))
+#define TP_STEP_BYTES(n, k) (8 * TP_STEP_RECORDS(n, k))
 #define TP_POLYNOMIAL_SHARES(n, m) (TP_SIZE(m) * TP_SIZE(n))
 #define TP_POLYNOMIAL_WORDS(n, k, m) (TP_SIZE(m) * TP_SAMPLE_WORDS(n, k))
 #define TP_NOISE_BYTES(n, k) (64 * TP_SIZE(k) * TP_SIZE(n))
@@ -93,7 +95,8 @@ enum tp_code {
     TP_SET_NUMBER = 22,        /* no published parameter set has this number */
     TP_COEFFICIENT_COUNT = 23, /* m is not from 1 to 256 */
     TP_NOISE_SET = 24,         /* a published parameter set, but not 1 or 2, which are ML-KEM's */
-    TP_NOISE_LENGTH = 25       /* not n strings of 64 * k noise bytes */
+    TP_NOISE_LENGTH = 25,      /* not n strings of 64 * k noise bytes */
+    TP_RECORD_ROOM = 26        /* too few bytes for the step records */
 };
 
 /* Code 0: accepted, and the value is a count, or where a call has a start the position behind its last word. Else a number of enum tp_code, and
@@ -234,6 +237,18 @@ tp_answer tp_convert_value(size_t n, size_t k, uint16_t q, const uint16_t *share
 TP_NODISCARD
 tp_answer tp_sample(size_t n, size_t k, uint16_t q, const uint16_t *x, size_t x_len, const uint16_t *y, size_t y_len, const uint16_t *words,
                     size_t words_len, size_t start, uint16_t *out, size_t out_len, uint16_t *work, size_t work_len);
+
+/* Samples as tp_sample does with start 0, and writes a record of eight bytes for each value on the way, in the order of the steps: R = 2k(5n(n +
+ * 1)/2 - 3) of them. A record is the bytes of "ST", the bit's number (x bits 0 to k - 1, y bits k to 2k - 1), round, share, kind, and the value
+ * in two bytes, low first. Shares, rounds and pairs are counted from 1. The kinds: 0 share b(j) of the bit, 1 B, 2 B * b(j) modulo q, 3 C with
+ * b(j) already added to C(1), in round j; 4 a share after a pair's word, the round being the pair's number; 5 an output share with this bit in
+ * it, round 0. Answers W = 2kn(n - 1). Output and work area are then as tp_sample leaves them. The records together show what the shares hide:
+ * they are for a lesson, not for a secret.
+ * Refuses 1 to 11 as tp_sample; 26 (fewer than 8R bytes for the records). Bytes past the last record keep their content. */
+TP_NODISCARD
+tp_answer tp_sample_steps(size_t n, size_t k, uint16_t q, const uint16_t *x, size_t x_len, const uint16_t *y, size_t y_len,
+                          const uint16_t *words, size_t words_len, uint16_t *out, size_t out_len, uint16_t *work, size_t work_len,
+                          uint8_t *records, size_t records_len);
 
 /* Samples a polynomial: m coefficients, each as tp_sample makes it. Lists hold coefficient after coefficient: coefficient t, from 0, has the n
  * shares from position tn on in x, y and output, and takes the W = 2kn(n - 1) words from position tW on. Answers mW. With words drawn so, any

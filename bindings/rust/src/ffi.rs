@@ -171,6 +171,25 @@ extern "C" {
         work_len: usize,
     ) -> tp_answer;
 
+    /// Samples, and writes a record of every step.
+    pub fn tp_sample_steps(
+        n: usize,
+        k: usize,
+        q: u16,
+        x: *const u16,
+        x_len: usize,
+        y: *const u16,
+        y_len: usize,
+        words: *const u16,
+        words_len: usize,
+        out: *mut u16,
+        out_len: usize,
+        work: *mut u16,
+        work_len: usize,
+        records: *mut u8,
+        records_len: usize,
+    ) -> tp_answer;
+
     /// Samples a polynomial: m coefficients, each a sample.
     pub fn tp_sample_polynomial(
         n: usize,

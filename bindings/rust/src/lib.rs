@@ -6,7 +6,7 @@ mod refusal;
 mod sizes;
 
 pub use refusal::{Reason, Refusal};
-pub use sizes::{bit_words, noise_bytes, noise_shares, polynomial_shares, polynomial_words, sample_words, sample_work, text_room, value_words};
+pub use sizes::{bit_words, noise_bytes, noise_shares, polynomial_shares, polynomial_words, sample_words, sample_work, step_bytes, step_records, text_room, value_words};
 pub use sizes::{MAX_BITS, MAX_COEFFICIENTS, MAX_FILE, MAX_SHARES, MAX_WORDS, MIN_BITS, MIN_COEFFICIENTS, MIN_SHARES, REPORT_ROOM};
 
 /// An opened string: its k bits, bit 0 the lowest.
@@ -181,6 +181,56 @@ pub fn sample(
             out.len(),
             work.as_mut_ptr(),
             work.len(),
+        )
+    })
+}
+
+/// Samples as [`sample`] does with start 0, and writes a record of eight bytes for each value on the way, in the order of the steps:
+/// [`step_records`] of them. A record is the bytes of "ST", the bit's number (x bits 0 to k - 1, y bits k to 2k - 1), round, share, kind, and the
+/// value in two bytes, low first; `tinplateau.h` tells the kinds. Answers [`sample_words`]. Output and work area are then as [`sample`] leaves them.
+/// The records together show what the shares hide: they are for a lesson, not for a secret.
+///
+/// Refuses, in this order, what [`sample`] refuses; then `RecordRoom`, for fewer than [`step_bytes`] bytes. Bytes past the last record keep
+/// their content.
+///
+/// ```
+/// # use tinplateau::*;
+/// let (mut out, mut work, mut records) = ([0; 2], [0; sample_work(2)], [0; step_bytes(2, 1)]);
+/// sample_steps(2, 1, 17, &[1, 0], &[1, 1], &[5, 3, 10, 16], &mut out, &mut work, &mut records)?;
+/// // The last record: y bit 0 is bit 1, share 2, kind 5, an output share.
+/// assert_eq!(records[step_bytes(2, 1) - 8..], [b'S', b'T', 1, 0, 2, 5, 11, 0]);
+/// assert_eq!(out, [7, 11]);
+/// # Ok::<(), Refusal>(())
+/// ```
+#[allow(clippy::too_many_arguments)]
+pub fn sample_steps(
+    n: usize,
+    k: usize,
+    q: u16,
+    x: &[u16],
+    y: &[u16],
+    words: &[u16],
+    out: &mut [u16],
+    work: &mut [u16],
+    records: &mut [u8],
+) -> Result<usize, Refusal> {
+    answered(unsafe {
+        ffi::tp_sample_steps(
+            n,
+            k,
+            q,
+            x.as_ptr(),
+            x.len(),
+            y.as_ptr(),
+            y.len(),
+            words.as_ptr(),
+            words.len(),
+            out.as_mut_ptr(),
+            out.len(),
+            work.as_mut_ptr(),
+            work.len(),
+            records.as_mut_ptr(),
+            records.len(),
         )
     })
 }

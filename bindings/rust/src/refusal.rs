@@ -58,6 +58,7 @@ reasons! {
     23 CoefficientCount "m is not from 1 to 256",
     24 NoiseSet "the parameter set is published, but is not 1 or 2, which are ML-KEM's",
     25 NoiseLength "there are not n strings of 64 * k noise bytes",
+    26 RecordRoom "there are too few bytes for the step records",
 }
 
 impl Reason {

@@ -28,7 +28,7 @@ pub const MAX_FILE: usize = 60_000;
 /// The bytes that the text buffer of [`report_text`](crate::report_text) must have for every file.
 pub const REPORT_ROOM: usize = 1_200;
 
-/// The random words that [`convert_bit`](crate::convert_bit) takes: n(n - 1). This and the next seven saturate.
+/// The random words that [`convert_bit`](crate::convert_bit) takes: n(n - 1). This and the next nine saturate.
 pub const fn bit_words(n: usize) -> usize {
     n.saturating_mul(n.saturating_sub(1))
 }
@@ -46,6 +46,17 @@ pub const fn sample_words(n: usize, k: usize) -> usize {
 /// The words of work area that [`sample`](crate::sample) takes, and [`sample_polynomial`](crate::sample_polynomial) too: n.
 pub const fn sample_work(n: usize) -> usize {
     n
+}
+
+/// The step records that [`sample_steps`](crate::sample_steps) writes: 2k(5n(n + 1)/2 - 3), and none for n = 0.
+pub const fn step_records(n: usize, k: usize) -> usize {
+    let bit = n.saturating_mul(n.saturating_add(1)).saturating_mul(5) / 2;
+    k.saturating_mul(2).saturating_mul(bit.saturating_sub(3))
+}
+
+/// The bytes of these records, eight each.
+pub const fn step_bytes(n: usize, k: usize) -> usize {
+    step_records(n, k).saturating_mul(8)
 }
 
 /// The shares of x, of y and of output in [`sample_polynomial`](crate::sample_polynomial): mn each.
