@@ -26,7 +26,7 @@ fn less_twice(a: Wide, r: Wide, b: Wide, q: Word) -> Word
 }
 
 // Step 2: the list for j + 1 shares of the bit, from the list for j, the j words at `start` and the next share of the bit.
-fn xor_share(a: [Word; 8], j: usize, bit: Word, q: Word, words: &[Word], start: usize) -> [Word; 8]
+pub fn xor_share(a: [Word; 8], j: usize, bit: Word, q: Word, words: &[Word], start: usize) -> [Word; 8]
     requires { ⌜ (j < 8) × (bit < 2) × Modulus q × Below q j (at a) × Drawn q start j (now words) ⌝ }
     ensures { λ r. ⌜ Holds (j + 1) (xorShare q j (at a) (after start (at (now (words .entry)))) bit) r ⌝ }
 {
@@ -61,7 +61,7 @@ pub fn bits_at(shares: &[u16; 8], t: usize) -> [Word; 8]
 }
 
 // Step 1: the list for one share.
-fn one_share(bit: Word) -> [Word; 8]
+pub fn one_share(bit: Word) -> [Word; 8]
     ensures { λ r. ⌜ Holds 1 (λ i. bit) r ⌝ }
 {
     let mut one: [Word; 8] = [0; 8];

@@ -1,0 +1,1 @@
+// No functions: the step records of a sample.
