@@ -107,6 +107,9 @@ pub const NOISE_SET: u32 = 24;
 // There are not n strings of 64 * k noise bytes.
 pub const NOISE_LENGTH: u32 = 25;
 
+// There are too few bytes for the step records.
+pub const RECORD_ROOM: u32 = 26;
+
 pub fn refuse(code: u32, position: usize) -> Checked
     ensures { λ r. ⌜ checkedReading r ≡ refused code position ⌝ }
 {

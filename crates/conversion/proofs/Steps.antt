@@ -17,12 +17,6 @@ use Rattle.conversion.specs.ZeroSharing.{zeroSharing, refreshShare-gains
 use Rattle.conversion.specs.Laws.{lessTwice-zero, lessTwice-one, extend-below, extend-from, xorShare-cong, convert-reduced, convertBit-local}
 use Rattle.conversion.specs.Arrays.{Holds}
 
--- ---- an array that is filled from the front
-
-pub holds-next : (i v : ℕ) (f : ℕ → ℕ) (a : List ℕ) → i < 8 → v ≡ f i → Holds i f a → Holds (i + 1) f (set a i v)
-holds-next i v f a l e A =
-    record { eight = length-set a i v ∙ A .eight; same = λ j m. set-agrees a i v f (omega (arith, A .eight)) e j (λ d. A .same j (omega arith)) }
-
 -- ---- a difference, less twice its product with a bit
 
 pub lessTwice-cswap : (q a r b : ℕ) → 0 < q → b < 2 → lessTwice q b (sub q a r) ≡ cswapSub q b a r
@@ -90,35 +84,11 @@ module _ (q j bit : ℕ) (A r : ℕ → ℕ) where
 
 -- ---- steps 1 and 2
 
-pub pairs-few : (n : ℕ) → n ≤ 1 → pairs n ≡ 0
-unfolding pairs
-pairs-few zero h = refl
-pairs-few (suc zero) h = refl
-pairs-few (suc (suc n)) h = absurd (omega arith)
-
-pub pairs-step : (n k : ℕ) → n ≡ suc k → pairs n ≡ pairs k + k
-unfolding pairs
-pairs-step n k e = rw e
-
 pub products : (a b : ℕ) → a ≤ 8 → b ≤ 8 → a * b ≤ 64
 products a b h l = N.mul-le-mul h l
 
 module _ (q : ℕ) (b w : ℕ → ℕ) where
-  pub one-list : (k v : ℕ) (a : List ℕ) → k ≡ 1 → v ≡ b 0 → Holds 1 (λ i. v) a → Holds k (convert q k b w) a
-  unfolding convert
-  one-list k v a e h A = rw e (record { eight = A .eight; same = λ t l. A .same t l ∙ h })
-
-  pub holds-below : (n : ℕ) (a : List ℕ) → 0 < q → b 0 < q → Holds n (convert q n b w) a → Below q n (at a)
-  holds-below n a p h H i l = rw (H .same i l, ← convert-reduced q n b w h i) (reduce-lt q p (convert q n b w i))
-
-  -- the list for one share more
-  pub share-added : (j k : ℕ) (a c : List ℕ) (r : ℕ → ℕ) (bit : ℕ) → j ≡ suc k → 0 < k → r ≡ after (pairs k) w → bit ≡ b k → Holds k (convert q k b w) a → Holds (k + 1) (xorShare q k (at a) r bit) c → Holds j (convert q j b w) c
-  unfolding convert
-  share-added j zero a c r bit d h s e A R = absurd (omega arith)
-  share-added j (suc m) a c r bit d h s e A R =
-      rw d (record { eight = R .eight; same = λ t l. R .same t (omega arith) ∙ rw e (ap (λ (f : ℕ → ℕ). f t) (xorShare-cong q (suc m) (b (suc m)) _ _ _ _ (A .same) (λ i x. ap (λ (f : ℕ → ℕ). f i) s))) })
-
-  -- and all steps
+  -- all steps
   pub bit-done : (n : ℕ) (a : List ℕ) (r : ℕ → ℕ) → b 0 < q → r ≡ after (pairs n) w → Holds n (convert q n b w) a → table n (refresh q n r (at a)) ≡ table n (convertBit q n b w)
   unfolding convertBit
   bit-done n a r h e A = rw e (table-same n _ _ (refresh-cong q n (after (pairs n) w) (at a) (convert q n b w) (λ t l. convert-reduced q n b w h t) (A .same)))

@@ -4,10 +4,11 @@ use mathlib.Core.List.{List, _++_}
 use Prim.Native.Nat.{ℕ, _+_, _^_, _≤_, _<_}
 use native.Mathlib.Omega.{arith}
 use borrow.Author.Tests.{leb-true, le-leb}
-use lib.ListN.{length, take, drop, length-append, length-take, length-drop, List·getD-append}
+use lib.ListN.{length, set, length-set, take, drop, length-append, length-take, length-drop, List·getD-append}
 use lib.Seq.{getD-append-add, getD-take, getD-drop}
 use Rattle.residue.specs.Residue.{EachBelow}
 use Rattle.buffers.specs.Positions.{at, after, Same, Below}
+use Rattle.buffers.specs.PositionLaws.{set-agrees}
 use Rattle.checks.specs.Checks.{isNone, wordChecks}
 use Rattle.checks.specs.Laws.{Hold, none-each-below, each-below-none}
 use Rattle.secrecy.specs.Secrecy.{Full, between}
@@ -16,6 +17,11 @@ use Rattle.secrecy.specs.Secrecy.{Full, between}
 pub record Holds (n : ℕ) (f : ℕ → ℕ) (a : List ℕ) : Type 0 where
   pub eight : length a ≡ 8
   pub same : Same n (at a) f
+
+-- filled from the front
+pub holds-next : (i v : ℕ) (f : ℕ → ℕ) (a : List ℕ) → i < 8 → v ≡ f i → Holds i f a → Holds (i + 1) f (set a i v)
+holds-next i v f a l e A =
+    record { eight = length-set a i v ∙ A .eight; same = λ j m. set-agrees a i v f (omega (arith, A .eight)) e j (λ d. A .same j (omega arith)) }
 
 -- the list has `count` words from `start` on, each below q
 pub record Drawn (q start count : ℕ) (words : List ℕ) : Type 0 where

@@ -7,8 +7,8 @@ use native.Mathlib.Omega.{arith}
 use borrow.Author.Tests.{lt-ltb, le-ltb}
 use lib.Bits.{bitXor, xor-self, xor-zero-r}
 use Rattle.residue.specs.Residue.{reduce, add, neg, sub, sum}
-use Rattle.residue.specs.Laws.{reduce-small, reduce-zero, reduce-reduce, reduce-add, reduce-neg, reduce-plus, add-reduce-left, neg-reduce, add-comm, add-assoc, add-left-comm, add-zero, zero-add, add-lt, add-neg, neg-zero, neg-add}
-use Rattle.residue.specs.Sum.{sum-cong, reduce-sum, sum-reduce, sum-last, sum-add, sum-neg}
+use Rattle.residue.specs.Laws.{reduce-small, reduce-zero, reduce-reduce, reduce-add, reduce-neg, reduce-plus, add-reduce-left, neg-reduce, add-comm, add-assoc, add-left-comm, add-zero, zero-add, reduce-lt, add-lt, add-neg, neg-zero, neg-add}
+use Rattle.residue.specs.Sum.{sum-cong, sum-lt, reduce-sum, sum-reduce, sum-last, sum-add, sum-neg}
 use Rattle.buffers.specs.Positions.{table, after, Same, Below}
 use Rattle.buffers.specs.PositionLaws.{table-below, table-last}
 use Rattle.masking.specs.Sharing.{xorAll}
@@ -27,10 +27,25 @@ pairs-twice (suc n) = go n ∙ ap (λ (m : ℕ). suc n * m) (omega arith)
     go zero = refl
     go (suc n) = omega (arith, go n)
 
+pub pairs-few : (n : ℕ) → n ≤ 1 → pairs n ≡ 0
+unfolding pairs
+pairs-few zero h = refl
+pairs-few (suc zero) h = refl
+pairs-few (suc (suc n)) h = absurd (omega arith)
+
+pub pairs-step : (n k : ℕ) → n ≡ suc k → pairs n ≡ pairs k + k
+unfolding pairs
+pairs-step n k e = rw e
+
 pub bitWords-some : (n : ℕ) → 2 ≤ n → 0 < bitWords n
 bitWords-some n h =
     let l : 1 ≤ n - 1 = omega arith in
     omega (arith, mul-le-mul h l)
+
+pub pairs-most : (n : ℕ) → n ≤ 8 → pairs n ≤ 28
+pairs-most n h =
+    let l : n - 1 ≤ 7 = omega arith in
+    omega (arith, pairs-twice n, mul-le-mul h l)
 
 pub pairs-half : (n : ℕ) → n * (n - 1) / 2 ≡ pairs n
 pairs-half n = omega (arith, pairs-twice n)
@@ -46,12 +61,19 @@ module _ (q : ℕ) where
   unfolding extend
   extend-from j A r i h = rw (le-ltb i j h)
 
-  extend-cong : (j : ℕ) (A D r s : ℕ → ℕ) → Same j A D → Same j r s → extend q j A r ≡ extend q j D s
+  pub extend-cong : (j : ℕ) (A D r s : ℕ → ℕ) → Same j A D → Same j r s → extend q j A r ≡ extend q j D s
   extend-cong j A D r s h l = fun-ext (λ i. go i (decLt i j))
     where
       go : (i : ℕ) → Dec (i < j) → extend q j A r i ≡ extend q j D s i
       go i (yes m) = extend-below j A r i m ∙ ap₂ (sub q) (h i m) (l i m) ∙ sym (extend-below j D s i m)
       go i (no m) = extend-from j A r i (omega arith) ∙ sum-cong q j r s l ∙ sym (extend-from j D s i (omega arith))
+
+  pub extend-lt : 0 < q → (j : ℕ) (A r : ℕ → ℕ) (i : ℕ) → extend q j A r i < q
+  extend-lt pos j A r i = go (decLt i j)
+    where
+      go : Dec (i < j) → extend q j A r i < q
+      go (yes h) = rw (extend-below j A r i h) (add-lt q pos _ _)
+      go (no h) = rw (extend-from j A r i (omega arith)) (sum-lt q pos j r)
 
   pub xorShare-cong : (j b : ℕ) (A D r s : ℕ → ℕ) → Same j A D → Same j r s → xorShare q j A r b ≡ xorShare q j D s b
   unfolding xorShare
@@ -77,6 +99,9 @@ module _ (q : ℕ) where
   convert-reduced zero b w h i = reduce-zero q
   convert-reduced (suc zero) b w h i = reduce-small q h
   convert-reduced (suc (suc m)) b w h i = xorBit-reduced (b (suc m)) _ i
+
+  pub convert-lt : (n : ℕ) (b w : ℕ → ℕ) → b 0 < q → (i : ℕ) → convert q n b w i < q
+  convert-lt n b w h i = rw (← convert-reduced n b w h i) (reduce-lt q (omega arith) (convert q n b w i))
 
   -- ---- all steps
 

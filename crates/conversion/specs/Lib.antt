@@ -3,6 +3,7 @@ pub mod Arrays
 pub mod Secrecy
 pub mod ZeroSharing
 pub mod Laws
+pub mod Lists
 pub mod Rows
 pub mod Accepted
 pub mod Written

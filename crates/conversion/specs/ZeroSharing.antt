@@ -1,7 +1,7 @@
 -- Step 3 adds a sharing of zero: n numbers made of its words, whose sum is 0, that are linear in the words, and of which all but one can be
 -- brought to any wanted value by the choice of the words.
 use mathlib.Core.Path.{_≡_, refl, sym, ap, _∙_, fun-ext}
-use mathlib.Core.Bool.{cond}
+use mathlib.Core.Bool.{Bool, true, false, cond}
 use mathlib.Core.Logic.{_≢_}
 use Prim.Native.Nat.{ℕ, zero, suc, _+_, _<_}
 use native.Mathlib.Nat as N
@@ -10,9 +10,9 @@ use native.Mathlib.Omega.{arith}
 use borrow.Author.Tests.{eq-eqb, ne-eqb}
 use lib.Dec.{eqb}
 use Rattle.residue.specs.Residue.{reduce, add, neg, sub, sum}
-use Rattle.residue.specs.Laws.{reduce-zero, reduce-reduce, reduce-add, reduce-neg, add-comm, add-assoc, add-left-comm, zero-add, add-zero, add-neg, neg-zero, neg-neg, neg-add}
+use Rattle.residue.specs.Laws.{reduce-zero, reduce-reduce, reduce-add, reduce-neg, add-comm, add-assoc, add-left-comm, zero-add, add-zero, add-lt, add-neg, neg-zero, neg-neg, neg-add}
 use Rattle.residue.specs.Sum.{sum-cong, sum-zero, sum-add, sum-neg, sum-one}
-use Rattle.buffers.specs.Positions.{after, join, Same}
+use Rattle.buffers.specs.Positions.{after, join, Same, Below}
 use Rattle.buffers.specs.PositionLaws.{join-below, join-from}
 use Rattle.conversion.specs.Conversion.{pairs, transfer, refreshShare, refreshFrom, refresh}
 
@@ -31,15 +31,15 @@ module _ (q : ℕ) where
   -- ---- one pair
 
   module _ (i m r : ℕ) (A : ℕ → ℕ) where
-    transfer-gains : transfer q i m r A i ≡ add q (A i) r
+    pub transfer-gains : transfer q i m r A i ≡ add q (A i) r
     unfolding transfer
     transfer-gains = rw (eq-eqb i i refl)
 
-    transfer-loses : m ≢ i → transfer q i m r A m ≡ sub q (A m) r
+    pub transfer-loses : m ≢ i → transfer q i m r A m ≡ sub q (A m) r
     unfolding transfer
     transfer-loses h = rw (ne-eqb m i h, eq-eqb m m refl)
 
-    transfer-keeps : (s : ℕ) → s ≢ i → s ≢ m → transfer q i m r A s ≡ A s
+    pub transfer-keeps : (s : ℕ) → s ≢ i → s ≢ m → transfer q i m r A s ≡ A s
     unfolding transfer
     transfer-keeps s h l = rw (ne-eqb s i h, ne-eqb s m l)
 
@@ -126,6 +126,24 @@ module _ (q : ℕ) where
   solve-ends (suc n) (suc ℓ) d j =
       let e : pairs n + n + j ≡ n + (pairs n + j) = omega arith in
       rw e (join-from n _ _ (pairs n + j) ∙ solve-ends n ℓ (λ i. d (suc i)) j)
+
+  -- ---- shares stay below q
+
+  module _ (pos : 0 < q) where
+    cond-lt : (b : Bool) {x y : ℕ} → x < q → y < q → cond b x y < q
+    cond-lt true h l = h
+    cond-lt false h l = l
+
+    pub transfer-below : (n i m r : ℕ) (A : ℕ → ℕ) → Below q n A → Below q n (transfer q i m r A)
+    unfolding transfer
+    transfer-below n i m r A h s l = cond-lt (eqb s i) (add-lt q pos (A s) r) (cond-lt (eqb s m) (add-lt q pos (A s) (neg q r)) (h s l))
+
+    pub refreshShare-below : (n i m c : ℕ) (w A : ℕ → ℕ) → Below q n A → Below q n (refreshShare q i m c w A)
+    unfolding refreshShare
+    refreshShare-below n i m zero w A h = h
+    refreshShare-below n i m (suc c) w A h = refreshShare-below n i (suc m) c (λ j. w (suc j)) (transfer q i m (w 0) A) (transfer-below n i m (w 0) A h)
+
+  -- ---- the sum, and every value but one
 
   module _ (pos : 0 < q) where
     pub zeroSharing-sum : (n : ℕ) (w : ℕ → ℕ) → sum q n (zeroSharing n w) ≡ 0

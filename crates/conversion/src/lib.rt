@@ -26,7 +26,14 @@ fn less_twice(a: Wide, r: Wide, b: Wide, q: Word) -> Word
 }
 
 // Step 2: the list for j + 1 shares of the bit, from the list for j, the j words at `start` and the next share of the bit.
-pub fn xor_share(a: [Word; 8], j: usize, bit: Word, q: Word, words: &[Word], start: usize) -> [Word; 8]
+pub fn xor_share(
+    a: [Word; 8],
+    j: usize,
+    bit: Word,
+    q: Word,
+    words: &[Word],
+    start: usize,
+) -> [Word; 8]
     requires { ⌜ (j < 8) × (bit < 2) × Modulus q × Below q j (at a) × Drawn q start j (now words) ⌝ }
     ensures { λ r. ⌜ Holds (j + 1) (xorShare q j (at a) (after start (at (now (words .entry)))) bit) r ⌝ }
 {

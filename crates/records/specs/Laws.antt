@@ -1,5 +1,5 @@
 -- Laws of lists of records and of their bytes.
-use mathlib.Core.Path.{_≡_, refl, sym, ap, _∙_}
+use mathlib.Core.Path.{_≡_, refl, sym, ap, ap₂, _∙_}
 use mathlib.Core.List.{List, [], _∷_, _++_, append-assoc, append-nil}
 use Prim.Native.Nat.{ℕ, zero, suc, suc-le-suc, _+_, _*_, _<_}
 use native.Mathlib.Nat.{zero-mul, mul-one, not-suc-le-zero, le-of-suc-le-suc}
@@ -7,6 +7,7 @@ use native.Mathlib.Numerals.{add-one}
 use native.Mathlib.Omega.{arith}
 use lib.ListN.{length, getD, take, drop, length-append}
 use lib.Seq.{take-at, drop-at, drop-drop}
+use Rattle.buffers.specs.Positions.{Same}
 use Rattle.text.specs.Laws.{wrote-nothing, wrote-then, wrote-length}
 use Rattle.records.specs.Records.{Step, step, stepBytes, recordBytes, bytes, across, perShare, Fits, Recorded}
 
@@ -16,6 +17,11 @@ pub across-last : (n : ℕ) (f : ℕ → List Step) → across (suc n) f ≡ acr
 unfolding across
 across-last zero f = append-nil (f zero)
 across-last (suc n) f = ap (λ (l : List Step). f zero ++ l) (across-last n (λ i. f (suc i))) ∙ sym (append-assoc (f zero) (across n (λ i. f (suc i))) (f (suc n)))
+
+pub across-same : (n : ℕ) (f g : ℕ → List Step) → ((i : ℕ) → i < n → f i ≡ g i) → across n f ≡ across n g
+unfolding across
+across-same zero f g h = refl
+across-same (suc n) f g h = ap₂ _++_ (h zero (omega arith)) (across-same n (λ i. f (suc i)) (λ i. g (suc i)) (λ i l. h (suc i) (suc-le-suc l)))
 
 -- of as many records each
 pub length-across : (n c : ℕ) (f : ℕ → List Step) → ((i : ℕ) → i < n → length (f i) ≡ c) → length (across n f) ≡ n * c
@@ -33,6 +39,9 @@ module _ (bit round kind : ℕ) (f : ℕ → ℕ) where
 
   pub perShare-next : (i : ℕ) → perShare (i + 1) bit round kind f ≡ perShare i bit round kind f ++ (step bit round (i + 1) kind (f i) ∷ [])
   perShare-next i = rw (add-one i) (across-last i (λ i. step bit round (suc i) kind (f i) ∷ []))
+
+pub perShare-same : (n bit round kind : ℕ) (f g : ℕ → ℕ) → Same n f g → perShare n bit round kind f ≡ perShare n bit round kind g
+perShare-same n bit round kind f g h = across-same n _ _ (λ i l. ap (λ (v : ℕ). step bit round (suc i) kind v ∷ []) (h i l))
 
 -- ---- bytes
 
@@ -70,11 +79,30 @@ pub recorded-end : (l : List ℕ) (a : ℕ) (s : List Step) {m : List ℕ} {b : 
 recorded-end l a s d = d .1 ∙ ap (λ (c : ℕ). a + c) (length-bytes s)
 
 pub recorded-length : (l : List ℕ) (a : ℕ) (s : List Step) {m : List ℕ} {b : ℕ} → Fits l a s → Recorded l a s m b → length m ≡ length l
-recorded-length l a s h d = wrote-length l a (bytes s) (omega (arith, length-bytes s)) d
+recorded-length l a s h d = wrote-length l a (bytes s) (omega (arith, length-bytes s, h .room)) d
 
 -- room for records is room for the first of them, and then for the others
 pub fits-first : (l : List ℕ) (a : ℕ) (s t : List Step) → Fits l a (s ++ t) → Fits l a s
-fits-first l a s t h = omega (arith, length-append s t)
+fits-first l a s t h = record { room = omega (arith, h .room, length-append s t) }
 
 pub fits-rest : (l : List ℕ) (a : ℕ) (s t : List Step) {m : List ℕ} {b : ℕ} → Fits l a (s ++ t) → Recorded l a s m b → Fits m b t
-fits-rest l a s t h d = omega (arith, length-append s t, recorded-end l a s d, recorded-length l a s (fits-first l a s t h) d)
+fits-rest l a s t h d = record { room = omega (arith, h .room, length-append s t, recorded-end l a s d, recorded-length l a s (fits-first l a s t h) d) }
+
+-- ---- what is left to write
+
+-- Of the records `whole`, to be written at `start` of `before`, those left are `steps`, at `a` of l: who writes them has written the whole.
+pub record Left (before : List ℕ) (start : ℕ) (whole : List Step) (l : List ℕ) (a : ℕ) (steps : List Step) : Type 0 where
+  pub room : Fits l a steps
+  pub long : length l ≡ length before
+  pub rest : {m : List ℕ} {b : ℕ} → Recorded l a steps m b → Recorded before start whole m b
+
+pub left-all : (l : List ℕ) (a : ℕ) (s : List Step) → Fits l a s → Left l a s l a s
+left-all l a s h = record { room = h; long = refl; rest = λ d. d }
+
+module _ (before : List ℕ) (start : ℕ) (whole : List Step) (l : List ℕ) (a : ℕ) where
+  pub left-next : (s t : List Step) {m : List ℕ} {b : ℕ} → Left before start whole l a (s ++ t) → Recorded l a s m b → Left before start whole m b t
+  left-next s t L d =
+      record { room = fits-rest l a s t (L .room) d; long = recorded-length l a s (fits-first l a s t (L .room)) d ∙ L .long; rest = λ e. L .rest (recorded-then l a s t d e) }
+
+  pub left-none : Left before start whole l a [] → Recorded before start whole l a
+  left-none L = L .rest (recorded-none l a)

@@ -42,8 +42,8 @@ abbrev pub perShare : ℕ → ℕ → ℕ → ℕ → (ℕ → ℕ) → List Ste
 perShare n bit round kind f = across n (λ i. step bit round (suc i) kind (f i) ∷ [])
 
 -- from `start` on, the list has room for the records
-abbrev pub Fits : List ℕ → ℕ → List Step → Type 0
-Fits l start steps = start + recordBytes * length steps ≤ length l
+pub record Fits (l : List ℕ) (start : ℕ) (steps : List Step) : Type 0 where
+  pub room : start + recordBytes * length steps ≤ length l
 
 -- the records were written at `start`, and `end` is the position behind them
 abbrev pub Recorded : List ℕ → ℕ → List Step → List ℕ → ℕ → Type 0

@@ -21,7 +21,15 @@ fn value_bytes(value: Word) -> [u8; 2]
     [(number & 255) as u8, (number >> 8) as u8]
 }
 
-pub fn write_record(records: &mut [u8], position: usize, bit: u8, round: u8, share: u8, kind: u8, value: Word) -> usize
+pub fn write_record(
+    records: &mut [u8],
+    position: usize,
+    bit: u8,
+    round: u8,
+    share: u8,
+    kind: u8,
+    value: Word,
+) -> usize
     requires { ⌜ Fits (now records) position (step bit round share kind value ∷ []) ⌝ }
     ensures { λ r. ⌜ Recorded (now (records .entry)) position (step bit round share kind value ∷ []) (now (records .exit)) r ⌝ }
 {
@@ -31,7 +39,15 @@ pub fn write_record(records: &mut [u8], position: usize, bit: u8, round: u8, sha
 }
 
 // A record for each of the first n values, which are those of the shares from 1 on.
-pub fn write_group(records: &mut [u8], position: usize, bit: u8, round: u8, kind: u8, n: usize, values: &[Word]) -> usize
+pub fn write_group(
+    records: &mut [u8],
+    position: usize,
+    bit: u8,
+    round: u8,
+    kind: u8,
+    n: usize,
+    values: &[Word],
+) -> usize
     requires { ⌜ (n ≤ 8) × (n ≤ length (now values)) × Fits (now records) position (perShare n bit round kind (at (now values))) ⌝ }
     ensures { λ r. ⌜ Recorded (now (records .entry)) position (perShare n bit round kind (at (now (values .entry)))) (now (records .exit)) r ⌝ }
 {

@@ -1,6 +1,6 @@
 -- Laws of the arithmetic modulo q: those of a commutative ring, up to reducing. Only what cancels a negative asks that q is not 0.
 use mathlib.Core.Path.{_≡_, refl, sym, ap, _∙_}
-use Prim.Native.Nat.{ℕ, _+_, _-_, _*_, _/_, _%_, _≤_, _<_}
+use Prim.Native.Nat.{ℕ, zero, suc, _+_, _-_, _*_, _/_, _%_, _≤_, _<_}
 use native.Mathlib.Nat as N
 use native.Mathlib.Nat.{mod-lt, mod-eq-of-lt, mod-mod, mod-add-mod, add-mod-mod, add-mod-right, mod-self, zero-mod, div-add-mod', add-mul-mod-self-right}
 use native.Mathlib.Decide.{decLt}
@@ -124,6 +124,16 @@ module _ (q : ℕ) where
   unfolding reduce mul
   one-mul a = ap (λ (z : ℕ). z % q) (omega arith)
 
+  -- a product with a bit is below q as it stands
+  pub bit-times : (a b : ℕ) → a < q → b < 2 → a * b < q
+  bit-times a zero h l = omega arith
+  bit-times a (suc zero) h l = omega arith
+  bit-times a (suc (suc b)) h l = absurd (omega arith)
+
+  pub mul-small : (a b : ℕ) → a * b < q → mul q a b ≡ a * b
+  unfolding mul
+  mul-small a b h = mod-eq-of-lt h
+
   pub mul-zero : (c : ℕ) → mul q c 0 ≡ 0
   unfolding mul
   mul-zero c = ap (λ (z : ℕ). z % q) (omega arith) ∙ zero-mod q
@@ -143,6 +153,10 @@ module _ (q : ℕ) where
 
     pub add-lt : (a b : ℕ) → add q a b < q
     add-lt a b = rw (← reduce-plus a b) (reduce-lt (a + b))
+
+    pub mul-lt : (a b : ℕ) → mul q a b < q
+    unfolding mul
+    mul-lt a b = mod-lt (a * b) pos
 
     pub add-neg : (a : ℕ) → add q a (neg q a) ≡ 0
     unfolding add neg

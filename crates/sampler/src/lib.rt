@@ -18,7 +18,7 @@ fn check_pair(n: usize, k: usize, q: Word, x: &[u16], y: &[u16]) -> Checked
     checks::check_shares(n, k, x, y)
 }
 
-fn check_sample(
+pub fn check_sample(
     n: usize,
     k: usize,
     q: Word,

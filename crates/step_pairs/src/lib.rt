@@ -77,7 +77,18 @@ pub fn refresh_steps(
     let mut done = 0;
     let mut end = position;
     for i in 0..n {
-        end = refresh_share_steps(list, i, n, q, &words[..], start + done, bit, 1 + done, records, end);
+        end = refresh_share_steps(
+            list,
+            i,
+            n,
+            q,
+            &words[..],
+            start + done,
+            bit,
+            1 + done,
+            records,
+            end,
+        );
         done += n - (i + 1);
     }
     end

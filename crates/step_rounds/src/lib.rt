@@ -65,9 +65,9 @@ fn write_round(
 
 // A list that steps 1 and 2 made, the position after their last word, and that behind their last record.
 pub struct Converted {
-    list: [Word; 8],
-    next: usize,
-    position: usize,
+    pub list: [Word; 8],
+    pub next: usize,
+    pub position: usize,
 }
 
 // Round j + 1, from the list for j shares, the j words at `start` and the next share b of the bit.

@@ -12,7 +12,7 @@ ghost use Rattle.totals.specs.Sample.{stringShare, sampleWords, sampleSh
 ghost use Rattle.totals.specs.Totals.{signedSum};
 
 // A bit's n shares added to the totals or, for a string that counts as negative, taken off. To add a share, q less it is taken off.
-fn add_row(row: &[Word; 8], n: usize, q: Word, negative: bool, work: &mut [Word])
+pub fn add_row(row: &[Word; 8], n: usize, q: Word, negative: bool, work: &mut [Word])
     requires { ⌜ (n ≤ 8) × Modulus q × Below q n (at (now row)) × (n ≤ length (now work)) × Below q n (at (now work)) ⌝ }
     ensures { λ _. ⌜ now (work .exit) ≡ overwrite (now (work .entry)) 0 (table n (λ i. signedSum q negative (at (now (work .entry)) i) (at (now (row .entry)) i))) ⌝ }
 {
@@ -51,7 +51,7 @@ fn add_string(
 }
 
 // The n totals go to the output, and zeros stand in their place.
-fn move_totals(work: &mut [Word], n: usize, out: &mut [Word])
+pub fn move_totals(work: &mut [Word], n: usize, out: &mut [Word])
     requires { ⌜ (n ≤ length (now work)) × (n ≤ length (now out)) ⌝ }
     ensures { λ _. ⌜ (now (work .exit) ≡ overwrite (now (work .entry)) 0 (table n (λ i. 0))) × (now (out .exit) ≡ overwrite (now (out .entry)) 0 (table n (at (now (work .entry))))) ⌝ }
 {

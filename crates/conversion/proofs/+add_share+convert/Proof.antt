@@ -6,7 +6,8 @@ use Rattle.buffers.specs.Positions.{at}
 use Rattle.buffers.specs.PositionLaws.{after-at}
 use Rattle.conversion.specs.Conversion.{pairs}
 use Rattle.conversion.specs.Arrays.{drawn-part}
-use Rattle.conversion.proofs.Steps.{pairs-few, pairs-step, one-list, holds-below, share-added}
+use Rattle.conversion.specs.Laws.{pairs-few, pairs-step}
+use Rattle.conversion.specs.Lists.{one-list, holds-below, share-added}
 use borrow.Author.Needs.{needs}
 use Prim.Native.Nat.{ℕ, _+_, _-_, _*_, _<_}
 use borrow.Fn.Kinds.{In}
@@ -82,7 +83,7 @@ add-share-xor-share-requires t c κs =
       omega arith,
       s .pre .1 .2 (s .args .j) (omega arith),
       s .pre .1 .3,
-      holds-below _ _ _ _ _ (omega arith) (omega (arith, s .pre .1 .2 0 (omega arith))) (l .0),
+      holds-below _ _ _ _ _ (omega (arith, s .pre .1 .2 0 (omega arith))) (l .0),
       drawn-part _ (pairs (s .args .j)) _ (l .1) (omega arith) (s .pre .1 .4),
     )
 

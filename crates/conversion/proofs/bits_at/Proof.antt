@@ -6,8 +6,7 @@ use lib.Bits.{and-mask}
 use borrow.Author.Needs.{needs}
 use Rattle.buffers.specs.Positions.{at}
 use Rattle.conversion.specs.Conversion.{bitsAt}
-use Rattle.conversion.specs.Arrays.{Holds}
-use Rattle.conversion.proofs.Steps.{holds-next}
+use Rattle.conversion.specs.Arrays.{Holds, holds-next}
 use Rattle.conversion.proofs.bits_at.Statement.{statement}
 use Rattle.conversion.proofs.bits_at.Tie as tie
 

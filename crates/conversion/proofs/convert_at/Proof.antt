@@ -9,7 +9,8 @@ use Rattle.conversion.specs.Conversion.{pairs}
 use Rattle.conversion.specs.Conversion as C
 use Rattle.conversion.specs.Laws.{pairs-twice}
 use Rattle.conversion.specs.Arrays.{Holds, drawn-part}
-use Rattle.conversion.proofs.Steps.{holds-below, bit-done}
+use Rattle.conversion.specs.Lists.{holds-below}
+use Rattle.conversion.proofs.Steps.{bit-done}
 use borrow.Author.Needs.{needs}
 use Rattle.conversion.proofs.convert_at.Statement.{statement}
 use Rattle.conversion.proofs.convert_at.Tie as tie
@@ -40,7 +41,7 @@ refresh-requires c κs =
       omega arith,
       s .pre .3,
       l .0 .eight,
-      holds-below _ _ _ _ _ (omega arith) (omega (arith, s .pre .2 0 (omega arith))) (l .0),
+      holds-below _ _ _ _ _ (omega (arith, s .pre .2 0 (omega arith))) (l .0),
       drawn-part _ (pairs (s .args .n)) _ (l .1) (omega arith) (s .pre .4),
       omega arith,
     )

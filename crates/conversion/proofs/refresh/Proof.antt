@@ -9,7 +9,8 @@ use Rattle.buffers.specs.Positions.{at, table, after}
 use Rattle.buffers.specs.Rows.{values-none, values-next, values-all}
 use Rattle.conversion.specs.Conversion.{pairs, refresh}
 use Rattle.conversion.specs.Arrays.{drawn-part}
-use Rattle.conversion.proofs.Steps.{Remaining, pairs-few, pairs-step, remaining-all, share-done, remaining-next}
+use Rattle.conversion.specs.Laws.{pairs-few, pairs-step}
+use Rattle.conversion.proofs.Steps.{Remaining, remaining-all, share-done, remaining-next}
 use Rattle.conversion.proofs.refresh.Statement.{statement}
 use Rattle.conversion.proofs.refresh.Tie as tie
 

@@ -22,7 +22,7 @@ room : (c : tie.In-loop Inv-loop μ-loop) → let a = c .before .before .before 
 room c =
     let s = c .before .before .before .before in
     let a = s .args in
-    omega (arith, c .before .loop .inv .2, c .before .loop .inv .3, c .loop-test .taken, s .pre .2, length-perShare (a .bit) (a .round) (a .kind) (at (a .values .now)) (a .n))
+    record { room = omega (arith, c .before .loop .inv .2, c .before .loop .inv .3, c .loop-test .taken, s .pre .2 .room, length-perShare (a .bit) (a .round) (a .kind) (at (a .values .now)) (a .n)) }
 
 loop-holds : tie.Need-loop-holds Inv-loop μ-loop
 loop-holds c = (omega arith, rw perShare-none (recorded-none _ _), omega arith, refl)
