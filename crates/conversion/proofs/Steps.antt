@@ -7,14 +7,14 @@ use native.Mathlib.Omega.{arith}
 use lib.ListN.{length, set, drop, replicate, length-set}
 use lib.Seq.{getD-set-same, getD-set-other, getD-drop}
 use Rattle.residue.specs.Residue.{sub, neg, add, sum, cswapSub}
-use Rattle.residue.specs.Laws.{reduce-small, reduce-lt, reduce-add, add-zero, add-comm, add-assoc, add-lt, neg-sub, sub-zero}
+use Rattle.residue.specs.Laws.{reduce-small, reduce-add, add-zero, add-comm, add-assoc, add-lt, neg-sub, sub-zero}
 use Rattle.residue.specs.Sum.{running-none, running-next, running-all, sum-last, sum-lt}
 use Rattle.buffers.specs.Positions.{at, table, after, Same, Below}
 use Rattle.buffers.specs.PositionLaws.{table-same, after-after, set-agrees}
 use Rattle.checks.specs.Width.{bit-lowest}
-use Rattle.conversion.specs.Conversion.{bitsAt, pairs, extend, lessTwice, xorBit, xorShare, convert, refreshShare, refresh, convertBit, bitShares}
-use Rattle.conversion.specs.ZeroSharing.{zeroSharing, refreshShare-gains, refreshShare-loses, refresh-adds, refresh-cong}
-use Rattle.conversion.specs.Laws.{lessTwice-zero, lessTwice-one, extend-below, extend-from, xorShare-cong, convert-reduced, convertBit-local}
+use Rattle.conversion.specs.Conversion.{bitsAt, extend, lessTwice, xorBit, xorShare, refreshShare, refresh, convertBit, bitShares}
+use Rattle.conversion.specs.ZeroSharing.{zeroSharing, refreshShare-gains, refreshShare-loses, refresh-adds}
+use Rattle.conversion.specs.Laws.{lessTwice-zero, lessTwice-one, extend-below, extend-from, convertBit-local}
 use Rattle.conversion.specs.Arrays.{Holds}
 
 -- ---- a difference, less twice its product with a bit
@@ -86,12 +86,6 @@ module _ (q j bit : ℕ) (A r : ℕ → ℕ) where
 
 pub products : (a b : ℕ) → a ≤ 8 → b ≤ 8 → a * b ≤ 64
 products a b h l = N.mul-le-mul h l
-
-module _ (q : ℕ) (b w : ℕ → ℕ) where
-  -- all steps
-  pub bit-done : (n : ℕ) (a : List ℕ) (r : ℕ → ℕ) → b 0 < q → r ≡ after (pairs n) w → Holds n (convert q n b w) a → table n (refresh q n r (at a)) ≡ table n (convertBit q n b w)
-  unfolding convertBit
-  bit-done n a r h e A = rw e (table-same n _ _ (refresh-cong q n (after (pairs n) w) (at a) (convert q n b w) (λ t l. convert-reduced q n b w h t) (A .same)))
 
 -- ---- the loops of step 3
 

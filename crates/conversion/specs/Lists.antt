@@ -1,10 +1,11 @@
--- The lists of steps 1 and 2 in arrays.
+-- The lists of the steps in arrays.
 use mathlib.Core.Path.{_≡_, ap, _∙_}
 use mathlib.Core.List.{List}
 use Prim.Native.Nat.{ℕ, zero, suc, _+_, _<_}
 use native.Mathlib.Omega.{arith}
-use Rattle.buffers.specs.Positions.{at, after, Below}
-use Rattle.conversion.specs.Conversion.{pairs, xorShare, convert}
+use Rattle.buffers.specs.Positions.{at, after, Same, Below}
+use Rattle.conversion.specs.Conversion.{pairs, xorShare, convert, refresh, convertBit}
+use Rattle.conversion.specs.ZeroSharing.{refresh-same}
 use Rattle.conversion.specs.Laws.{xorShare-cong, convert-lt}
 use Rattle.conversion.specs.Arrays.{Holds}
 
@@ -22,3 +23,8 @@ module _ (q : ℕ) (b w : ℕ → ℕ) where
   share-added j zero a c r bit d h s e A R = absurd (omega arith)
   share-added j (suc m) a c r bit d h s e A R =
       rw d (record { eight = R .eight; same = λ t l. R .same t (omega arith) ∙ rw e (ap (λ (f : ℕ → ℕ). f t) (xorShare-cong q (suc m) (b (suc m)) _ _ _ _ (A .same) (λ i x. ap (λ (f : ℕ → ℕ). f i) s))) })
+
+  -- and all steps
+  pub bit-done : (n : ℕ) (a : List ℕ) (r : ℕ → ℕ) → r ≡ after (pairs n) w → Holds n (convert q n b w) a → Same n (refresh q n r (at a)) (convertBit q n b w)
+  unfolding convertBit
+  bit-done n a r e A = rw e (refresh-same q n (after (pairs n) w) (at a) (convert q n b w) (A .same))

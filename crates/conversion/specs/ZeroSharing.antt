@@ -43,6 +43,24 @@ module _ (q : ℕ) where
     unfolding transfer
     transfer-keeps s h l = rw (ne-eqb s i h, ne-eqb s m l)
 
+  -- shares that are the same stay so
+  pub transfer-same : (n i m r : ℕ) (A D : ℕ → ℕ) → Same n A D → Same n (transfer q i m r A) (transfer q i m r D)
+  unfolding transfer
+  transfer-same n i m r A D h s l = rw (h s l)
+
+  pub refreshShare-same : (n i m c : ℕ) (w A D : ℕ → ℕ) → Same n A D → Same n (refreshShare q i m c w A) (refreshShare q i m c w D)
+  unfolding refreshShare
+  refreshShare-same n i m zero w A D h = h
+  refreshShare-same n i m (suc c) w A D h = refreshShare-same n i (suc m) c (λ j. w (suc j)) _ _ (transfer-same n i m (w 0) A D h)
+
+  refreshFrom-same : (n i c : ℕ) (w A D : ℕ → ℕ) → Same n A D → Same n (refreshFrom q i c w A) (refreshFrom q i c w D)
+  unfolding refreshFrom
+  refreshFrom-same n i zero w A D h = h
+  refreshFrom-same n i (suc c) w A D h = refreshFrom-same n (suc i) c (after c w) _ _ (refreshShare-same n i (suc i) c w A D h)
+
+  pub refresh-same : (n : ℕ) (w A D : ℕ → ℕ) → Same n A D → Same n (refresh q n w A) (refresh q n w D)
+  refresh-same n w A D h = refreshFrom-same n 0 n w A D h
+
   -- ---- the pairs of one share: it gains the sum of the words, and each of the others loses its word
 
   pub refreshShare-gains : (i m c : ℕ) (w A : ℕ → ℕ) → i < m → reduce q (A i) ≡ A i → refreshShare q i m c w A i ≡ add q (A i) (sum q c w)
@@ -96,11 +114,6 @@ module _ (q : ℕ) where
   refresh-adds n w A r t h =
       let e : (s : ℕ) → 0 + s ≡ s = N.zero-add in
       rw e at (refreshFrom-adds 0 n w A (λ s l. rw (e s) (r s l)) t h)
-
-  -- it reads the n shares only
-  pub refresh-cong : (n : ℕ) (w A D : ℕ → ℕ) → ((t : ℕ) → t < n → reduce q (D t) ≡ D t) → Same n A D → Same n (refresh q n w A) (refresh q n w D)
-  refresh-cong n w A D r h t l =
-      refresh-adds n w A (λ s m. rw (h s m) (r s m)) t l ∙ rw (h t l) (sym (refresh-adds n w D r t l))
 
   -- ---- its words
 

@@ -1,8 +1,8 @@
 -- Laws of lists of records and of their bytes.
 use mathlib.Core.Path.{_≡_, refl, sym, ap, ap₂, _∙_}
 use mathlib.Core.List.{List, [], _∷_, _++_, append-assoc, append-nil}
-use Prim.Native.Nat.{ℕ, zero, suc, suc-le-suc, _+_, _*_, _<_}
-use native.Mathlib.Nat.{zero-mul, mul-one, not-suc-le-zero, le-of-suc-le-suc}
+use Prim.Native.Nat.{ℕ, zero, suc, suc-le-suc, _+_, _-_, _*_, _<_}
+use native.Mathlib.Nat.{add-zero, zero-mul, mul-one, not-suc-le-zero, le-of-suc-le-suc}
 use native.Mathlib.Numerals.{add-one}
 use native.Mathlib.Omega.{arith}
 use lib.ListN.{length, getD, take, drop, length-append}
@@ -22,6 +22,13 @@ pub across-same : (n : ℕ) (f g : ℕ → List Step) → ((i : ℕ) → i < n �
 unfolding across
 across-same zero f g h = refl
 across-same (suc n) f g h = ap₂ _++_ (h zero (omega arith)) (across-same n (λ i. f (suc i)) (λ i. g (suc i)) (λ i l. h (suc i) (suc-le-suc l)))
+
+-- those from list t on
+pub across-from : (k t : ℕ) (f : ℕ → List Step) → t < k → across (k - t) (λ i. f (t + i)) ≡ f t ++ across (k - (t + 1)) (λ i. f (t + 1 + i))
+unfolding across
+across-from k t f h =
+    let e : k - t ≡ suc (k - (t + 1)) = omega arith in
+    rw e (ap₂ _++_ (ap f (add-zero t)) (across-same (k - (t + 1)) _ _ (λ i l. ap f (omega arith))))
 
 -- of as many records each
 pub length-across : (n c : ℕ) (f : ℕ → List Step) → ((i : ℕ) → i < n → length (f i) ≡ c) → length (across n f) ≡ n * c

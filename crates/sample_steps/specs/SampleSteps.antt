@@ -7,7 +7,7 @@ use Rattle.checks.specs.Checks.{Check, Outcome, verdict, settled, atLeast}
 use Rattle.totals.specs.Sample.{sampleWords}
 use Rattle.sampler.specs.Sampler.{Buffers, both, sampleChecks, sampled}
 use Rattle.records.specs.Records.{recordBytes, bytes}
-use Rattle.steps.specs.Steps.{records, recordCount}
+use Rattle.steps.specs.Steps.{stepRecords, recordCount}
 
 -- 26: there are bytes for so many records
 abbrev pub recordRoom : ℕ → ℕ → Check
@@ -15,19 +15,19 @@ recordRoom count room = atLeast 26 (recordBytes * count) room
 
 -- the sampler's, with words from position 0, then 26
 abbrev pub stepChecks : ℕ → ℕ → ℕ → List ℕ → List ℕ → List ℕ → ℕ → ℕ → ℕ → List Check
-stepChecks n k q x y words room area bytes = sampleChecks n k q x y words 0 room area ++ (recordRoom (recordCount n k) bytes ∷ [])
+stepChecks n k q x y words room area size = sampleChecks n k q x y words 0 room area ++ (recordRoom (recordCount n k) size ∷ [])
 
 -- output and work area, and the list of bytes
 pub record Lists : Type 0 where
   pub sampler : Buffers
-  pub steps : List ℕ
+  pub records : List ℕ
 
 abbrev pub lists : Buffers → List ℕ → Lists
-lists sampler steps = record { sampler = sampler; steps = steps }
+lists sampler records = record { sampler = sampler; records = records }
 
 -- An accepted call answers how many words it took. Output and work area are then as the sampler leaves them, and the records stand in front of the
 -- bytes.
 unfoldable pub stepsSampled : ℕ → ℕ → ℕ → List ℕ → List ℕ → List ℕ → List ℕ → List ℕ → List ℕ → Outcome ℕ Lists
-stepsSampled n k q x y words out work steps =
-    settled (verdict (stepChecks n k q x y words (length out) (length work) (length steps)) (sampleWords n k)) (lists (both out work) steps)
-    (lists (sampled n k q x y words 0 out work .buffers) (overwrite steps 0 (bytes (records n k q x y words))))
+stepsSampled n k q x y words out work records =
+    settled (verdict (stepChecks n k q x y words (length out) (length work) (length records)) (sampleWords n k)) (lists (both out work) records)
+    (lists (sampled n k q x y words 0 out work .buffers) (overwrite records 0 (bytes (stepRecords n k q x y words))))

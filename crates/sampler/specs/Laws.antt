@@ -14,8 +14,9 @@ use Rattle.masking.specs.Xor.{xorAll-lt}
 use Rattle.binomial.specs.Signed.{weight}
 use Rattle.binomial.specs.Weight.{sum-bits, weight-bits}
 use Rattle.conversion.specs.Conversion.{bitWords, row}
-use Rattle.conversion.specs.Rows.{row-local, row-sum}
+use Rattle.conversion.specs.Rows.{row-sum}
 use Rattle.totals.specs.Sample.{stringShare, sampleShare, sampleWords}
+use Rattle.totals.specs.Totals.{stringShare-local}
 
 module _ (q n : ℕ) (large : 2 < q) where
   abbrev positive : 0 < q
@@ -27,14 +28,10 @@ module _ (q n : ℕ) (large : 2 < q) where
 
   -- ---- n shares of each string matter, and the words: a string reads its first k × n(n − 1), and a sample its first W
 
-  stringShare-local : (k : ℕ) (x x′ w w′ : ℕ → ℕ) → Same n x x′ → Same (k * bitWords n) w w′ → Same n (stringShare q n k x w) (stringShare q n k x′ w′)
-  unfolding stringShare
-  stringShare-local k x x′ w w′ e s i l = sum-cong q k _ _ (λ t h. row-local q n large k t x x′ w w′ h e s i l)
-
   pub share-local : (k : ℕ) (x x′ y y′ w w′ : ℕ → ℕ) → Same n x x′ → Same n y y′ → Same (sampleWords n k) w w′ → Same n (sampleShare q n k x y w) (sampleShare q n k x′ y′ w′)
   unfolding sampleShare
   share-local k x x′ y y′ w w′ e d s i l =
-      ap₂ (sub q) (stringShare-local k x x′ w w′ e (λ j m. s j (omega arith)) i l) (stringShare-local k y y′ _ _ d (λ j m. s (k * bitWords n + j) (omega arith)) i l)
+      ap₂ (sub q) (stringShare-local q n large k x x′ w w′ e (λ j m. s j (omega arith)) i l) (stringShare-local q n large k y y′ _ _ d (λ j m. s (k * bitWords n + j) (omega arith)) i l)
 
   -- ---- the sum
 

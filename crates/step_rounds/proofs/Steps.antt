@@ -9,7 +9,7 @@ use Rattle.buffers.specs.Positions.{at, after, Below}
 use Rattle.conversion.specs.Conversion.{pairs, extend, xorShare, convert}
 use Rattle.conversion.specs.Laws.{extend-lt, extend-cong}
 use Rattle.conversion.specs.Arrays.{Holds}
-use Rattle.records.specs.Records.{Step, across, step, perShare}
+use Rattle.records.specs.Records.{Step, across, step}
 use Rattle.records.specs.Laws.{across-last, perShare-same}
 use Rattle.steps.specs.Steps.{listSteps, addedSteps, roundSteps}
 

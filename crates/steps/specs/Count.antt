@@ -6,7 +6,7 @@ use lib.ListN.{length, getD, take, drop}
 use Rattle.buffers.specs.Positions.{at}
 use Rattle.records.specs.Records.{stepBytes, recordBytes, bytes}
 use Rattle.records.specs.Laws.{bytes-at}
-use Rattle.steps.specs.Steps.{bitSteps, records, recordCount}
+use Rattle.steps.specs.Steps.{bitSteps, stepRecords, recordCount}
 use Rattle.steps.specs.Walk.{none, bitCount, BitRecords, bit-each, sample-each}
 
 module _ (q n : ℕ) where
@@ -28,9 +28,9 @@ module _ (q n : ℕ) where
   bit-count bit b w totals = bit-each _ q n bit _ _ _ (nothing bit (λ e. b) (λ e. w) (λ e. totals)) .count tt
 
 module _ (n k q : ℕ) (x y words : List ℕ) where
-  pub record-count : length (records n k q x y words) ≡ recordCount n k
+  pub record-count : length (stepRecords n k q x y words) ≡ recordCount n k
   record-count = sample-each _ q n k (λ e. at x) (λ e. at y) (λ e. at words) (λ t l. nothing q n _ _ _ _) (λ t l. nothing q n _ _ _ _) .count tt
 
   -- record p stands in the bytes from 8 × p on
-  pub records-at : (p : ℕ) → p < recordCount n k → take recordBytes (drop (recordBytes * p) (bytes (records n k q x y words))) ≡ stepBytes (getD (records n k q x y words) p none)
-  records-at p l = bytes-at (records n k q x y words) none p (rw record-count l)
+  pub records-at : (p : ℕ) → p < recordCount n k → take recordBytes (drop (recordBytes * p) (bytes (stepRecords n k q x y words))) ≡ stepBytes (getD (stepRecords n k q x y words) p none)
+  records-at p l = bytes-at (stepRecords n k q x y words) none p (rw record-count l)

@@ -1,6 +1,6 @@
 -- The range of each field of a record, and that the records are bytes.
 use mathlib.Core.List.{List, [], _∷_}
-use Prim.Native.Nat.{ℕ, zero, suc, suc-le-suc, _+_, _-_, _*_, _≤_, _<_}
+use Prim.Native.Nat.{ℕ, zero, suc, suc-le-suc, _+_, _*_, _≤_, _<_}
 use native.Mathlib.Nat.{not-suc-le-zero, le-of-suc-le-suc}
 use native.Mathlib.Omega.{arith}
 use lib.ListN.{length, getD}
@@ -13,7 +13,7 @@ use Rattle.conversion.specs.Laws.{pairs-most, extend-lt, convert-lt}
 use Rattle.conversion.specs.ZeroSharing.{transfer-below}
 use Rattle.totals.specs.Sample.{stringShare}
 use Rattle.records.specs.Records.{Step, step, stepBytes, bytes}
-use Rattle.steps.specs.Steps.{records, recordCount}
+use Rattle.steps.specs.Steps.{stepRecords, recordCount}
 use Rattle.steps.specs.Walk.{none, BitRecords, sample-each}
 use Rattle.steps.specs.Count.{record-count}
 
@@ -55,7 +55,7 @@ module _ (n k q : ℕ) (eight : n ≤ 8) (large : 2 < q) where
       }
 
   module _ (x y words : List ℕ) where
-    pub records-proper : (p : ℕ) → p < recordCount n k → Proper n k q (getD (records n k q x y words) p none)
+    pub records-proper : (p : ℕ) → p < recordCount n k → Proper n k q (getD (stepRecords n k q x y words) p none)
     records-proper p l =
         sample-each _ q n k (λ e. at x) (λ e. at y) (λ e. at words)
         (λ t h. proper-bit (0 + t) _ _ _ (omega arith) (λ j. bit-lt (at x j) t) (stringShare-lt (suc t) _ _))
@@ -83,5 +83,5 @@ module _ (n k q : ℕ) (eight : n ≤ 8) (sixteen : k ≤ 16) (word : q < 65536)
   bytes-below [] r = λ i m. absurd (not-suc-le-zero m)
   bytes-below (s ∷ l) r = each-below-append 256 (stepBytes s) (bytes l) (step-below s (r zero (omega arith))) (bytes-below l (λ p m. r (suc p) (suc-le-suc m)))
 
-  pub records-bytes : 2 < q → (x y words : List ℕ) → EachBelow 256 (bytes (records n k q x y words))
-  records-bytes large x y words = bytes-below (records n k q x y words) (λ p l. records-proper n k q eight large x y words p (rw (record-count n k q x y words) at l))
+  pub records-bytes : 2 < q → (x y words : List ℕ) → EachBelow 256 (bytes (stepRecords n k q x y words))
+  records-bytes large x y words = bytes-below (stepRecords n k q x y words) (λ p l. records-proper n k q eight large x y words p (rw (record-count n k q x y words) at l))

@@ -63,8 +63,8 @@ module _ (q n k : ℕ) where
       ++ stringSteps k y (after (k * bitWords n) w) (λ t i. sub q (stringShare q n k x w i) (stringShare q n t y (after (k * bitWords n) w) i))
 
 -- the records of a call
-abbrev pub records : ℕ → ℕ → ℕ → List ℕ → List ℕ → List ℕ → List Step
-records n k q x y words = sampleSteps q n k (at x) (at y) (at words)
+abbrev pub stepRecords : ℕ → ℕ → ℕ → List ℕ → List ℕ → List ℕ → List Step
+stepRecords n k q x y words = sampleSteps q n k (at x) (at y) (at words)
 
 -- how many they are
 abbrev pub recordCount : ℕ → ℕ → ℕ

@@ -4,13 +4,12 @@ use Prim.Native.Nat.{_+_, _-_}
 use native.Mathlib.Omega.{arith}
 use Rattle.buffers.specs.Overwrite.{overwrite}
 use Rattle.buffers.specs.Positions.{at, after}
-use Rattle.buffers.specs.PositionLaws.{after-at}
+use Rattle.buffers.specs.PositionLaws.{after-at, table-same}
 use Rattle.conversion.specs.Conversion.{pairs}
 use Rattle.conversion.specs.Conversion as C
 use Rattle.conversion.specs.Laws.{pairs-twice}
 use Rattle.conversion.specs.Arrays.{Holds, drawn-part}
-use Rattle.conversion.specs.Lists.{holds-below}
-use Rattle.conversion.proofs.Steps.{bit-done}
+use Rattle.conversion.specs.Lists.{holds-below, bit-done}
 use borrow.Author.Needs.{needs}
 use Rattle.conversion.proofs.convert_at.Statement.{statement}
 use Rattle.conversion.proofs.convert_at.Tie as tie
@@ -55,9 +54,8 @@ returns c =
     let s = d .before .before .before in
     let a = s .args in
     let l = list d in
-    let h = s .pre .3 .large in
     let r = c .before .before .refresh .ensures in (
-      r .0 ∙ ap (overwrite (a .row .now) 0) (bit-done _ _ _ _ _ _ (omega (arith, s .pre .2 0 (omega arith))) (after-at _ _ _ (at (a .words .now)) (l .1)) (l .0)),
+      r .0 ∙ ap (overwrite (a .row .now) 0) (table-same _ _ _ (bit-done _ _ _ _ _ _ (after-at _ _ _ (at (a .words .now)) (l .1)) (l .0))),
       omega (arith, r .1, l .1, pairs-twice (a .n)),
     )
 

@@ -1,5 +1,4 @@
 -- The array of a record's bytes, written.
-use mathlib.Core.Path.{ap}
 use borrow.Author.Needs.{needs}
 use Rattle.records.specs.Records.{bytes}
 use Rattle.records.proofs.write_record.Statement.{statement}

@@ -12,7 +12,7 @@ use Rattle.checks.specs.Width.{bit-lt}
 use Rattle.conversion.specs.Conversion.{bitsAt, bitWords, row}
 use Rattle.conversion.specs.Arrays.{drawn-part}
 use Rattle.conversion.specs.Rows.{row-lt, row-from}
-use Rattle.totals.proofs.Steps.{totalsOf, totals-none, totals-below, totals-next}
+use Rattle.totals.specs.Totals.{totalsOf, totals-none, totals-below, totals-next}
 use Rattle.totals.proofs.add_string.Statement.{statement}
 use Rattle.totals.proofs.add_string.Tie as tie
 
@@ -95,7 +95,7 @@ loop-again c =
       omega arith,
       omega (arith, l .inv .1, d .convert-at .ensures .1),
       front-length _ _ _ _ (d .convert-at .ensures .0) (omega (arith, l .inv .2, s .pre .1)) ∙ l .inv .2,
-      totals-next _ _ (positive s) (s .args .negative) (at (s .args .shares .now)) (words s) _ (l .bit) _ (l .inv .3) _ (d .convert-at .last .1 .1 .1 .1 .1 .0) (made d) (e .add-row .ensures),
+      totals-next _ _ (positive s) (s .args .negative) (at (s .args .shares .now)) (words s) _ (l .bit) _ (l .inv .3) _ (at (d .convert-at .last .1 .1 .1 .1 .1 .0)) (made d) (e .add-row .ensures),
     )
 
 same-length : tie.Need-same-length Inv-loop μ-loop

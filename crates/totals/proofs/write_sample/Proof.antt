@@ -8,7 +8,7 @@ use Rattle.buffers.specs.Overwrite.{overwrite}
 use Rattle.buffers.specs.Positions.{at, after}
 use Rattle.conversion.specs.Conversion.{bitWords}
 use Rattle.conversion.specs.Arrays.{drawn-part}
-use Rattle.totals.proofs.Steps.{totals-below, totals-shares, totals-cleared}
+use Rattle.totals.specs.Totals.{totals-below, totals-shares, totals-cleared}
 use Rattle.totals.proofs.write_sample.Statement.{statement}
 use Rattle.totals.proofs.write_sample.Tie as tie
 
