@@ -15,6 +15,7 @@ use Rattle.binomial.specs.Sets.{setChecks, parameterSet}
 use Rattle.conversion.specs.Conversion.{bitChecks, valueChecks, converted}
 use Rattle.values.specs.Values.{convertedValue}
 use Rattle.sampler.specs.Sampler.{sampleChecks, sampled}
+use Rattle.sample_steps.specs.SampleSteps.{stepChecks, stepsSampled}
 use Rattle.polynomial.specs.Polynomial.{polynomialChecks, sampledPolynomial}
 use Rattle.noise.specs.Split.{noiseChecks, noiseSplit}
 use Rattle.lesson_samples.specs.Call.{callChecks, pieceWritten}
@@ -64,6 +65,10 @@ module _ (code position : ℕ) where
   pub sample-code : (n k q : ℕ) (x y words : List ℕ) (start : ℕ) (out work : List ℕ) → sampled n k q x y words start out work .answer ≡ refused code position → 0 < code
   unfolding sampled
   sample-code n k q x y words start out work e = numbered _ (sampleChecks n k q x y words start (length out) (length work)) refl (sym (settled-answer _ _ _) ∙ e)
+
+  pub sample-steps-code : (n k q : ℕ) (x y words out work records : List ℕ) → stepsSampled n k q x y words out work records .answer ≡ refused code position → 0 < code
+  unfolding stepsSampled
+  sample-steps-code n k q x y words out work records e = numbered _ (stepChecks n k q x y words (length out) (length work) (length records)) refl (sym (settled-answer _ _ _) ∙ e)
 
   pub sample-polynomial-code : (n k q m : ℕ) (x y words out work : List ℕ) → sampledPolynomial n k q m x y words out work .answer ≡ refused code position → 0 < code
   unfolding sampledPolynomial

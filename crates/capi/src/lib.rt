@@ -19,6 +19,7 @@ ghost use Rattle.values.specs.Values.{convertedValue};
 ghost use Rattle.values.specs.Secrecy.{ValueSecrecy};
 ghost use Rattle.sampler.specs.Sampler.{both, sampled};
 ghost use Rattle.sampler.specs.Secrecy.{Secrecy};
+ghost use Rattle.sample_steps.specs.SampleSteps.{lists, stepsSampled};
 ghost use Rattle.polynomial.specs.Polynomial.{sampledPolynomial};
 ghost use Rattle.polynomial.specs.Secrecy.{PolynomialSecrecy};
 ghost use Rattle.noise.specs.Split.{targets, noiseSplit};
@@ -230,6 +231,23 @@ pub extern "C" fn tp_sample(
     ensures secrecy { λ _. ⌜ Secrecy n k q ⌝ }
 {
     answer(sampler::sample(n, k, q, x, y, &words[..], start, out, work))
+}
+
+#[no_mangle]
+pub extern "C" fn tp_sample_steps(
+    n: usize,
+    k: usize,
+    q: Word,
+    x: &[u16],
+    y: &[u16],
+    words: &[Word],
+    out: &mut [Word],
+    work: &mut [Word],
+    records: &mut [u8],
+) -> TpAnswer
+    ensures { λ r. ⌜ returned r (lists (both (now (out .exit)) (now (work .exit))) (now (records .exit))) ≡ answered (stepsSampled n k q (now (x .entry)) (now (y .entry)) (now (words .entry)) (now (out .entry)) (now (work .entry)) (now (records .entry))) ⌝ }
+{
+    answer(sample_steps::sample_steps(n, k, q, x, y, words, out, work, records))
 }
 
 #[no_mangle]
