@@ -1,4 +1,4 @@
-.PHONY: help lesson report exam lib install uninstall bench test clean always
+.PHONY: help lesson report exam steps lib install uninstall bench test clean always
 .NOTPARALLEL:
 .DELETE_ON_ERROR:
 unexport CDPATH
@@ -13,10 +13,11 @@ help:
 	@echo 'make test       all tests, which is what the gate runs'
 	@echo 'make report     the class report of an example'
 	@echo 'make exam       the exam sheet: every reference value, as the library gives it'
+	@echo 'make steps      every step of a sample: its records as a table, and as a picture in target/steps.svg'
 	@echo 'make lib        the library for C and Rust: $(library) and $(header)'
 	@echo 'make install    installs these and a pkg-config file below PREFIX, here $(PREFIX); DESTDIR goes before it'
 	@echo 'make uninstall  removes what make install installs'
-	@echo 'make bench      samples, polynomials, the split of noise and converted values beside plain and careful C'
+	@echo 'make bench      samples, step records, polynomials, the split of noise and converted values beside plain and careful C'
 	@echo 'make clean      removes target/ and build/'
 
 lesson:
@@ -30,6 +31,14 @@ report:
 exam:
 	@tools/prove check exam_program
 	@target/bin/exam_program
+
+steps: lib
+	@mkdir -p target
+	@cc -std=c11 -O2 -Wall -Wextra -Ibuild/include examples/steps.c $(library) -o target/steps
+	@target/steps >target/steps.records
+	@tools/steps table target/steps.records
+	@tools/steps picture target/steps.records -o target/steps.svg
+	@echo 'The picture is in target/steps.svg.'
 
 lib: $(library) $(header)
 
@@ -72,6 +81,7 @@ test:
 	tests/lessons
 	tests/reports
 	tests/lesson_tool
+	tests/steps_tool
 	tests/archive
 	tests/frames
 	tests/header

@@ -43,6 +43,8 @@ static void damage_number(call *c, const contest *in, point p, size_t m, enum tp
         c->out_len = random_within(0, shares - 1);
     else if (check == TP_WORK_ROOM)
         c->work_len = random_within(0, TP_SAMPLE_WORK(p.n) - 1);
+    else if (check == TP_RECORD_ROOM)
+        c->records_len = random_within(0, TP_STEP_BYTES(p.n, p.k) - 1);
 }
 
 /* The same for what a list holds, in any coefficient. */

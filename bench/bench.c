@@ -1,8 +1,8 @@
-/* The library's sampler beside samplers in C, on the same inputs: samples, and polynomials. The same for the split of noise and the conversion
- * of values.
+/* The library's sampler beside samplers in C, on the same inputs: samples, also with step records, and polynomials. The same for the split of noise
+ * and the conversion of values.
  *
  *   bench agree           checks that all leave the same behind
- *   bench time            times all; writes lines 'CONTEST POINT NAME NANOSECONDS', for one coefficient
+ *   bench time            times all; writes lines 'CONTEST POINT NAME NANOSECONDS', for one coefficient or record
  *   bench times           reads such lines and prints the tables of the least times, and whether the goals are met
  *   bench list            writes lines 'CONTEST POINT NAME'
  *   bench count C P NAME  has NAME of contest C make each input of point P once, for a tool that counts instructions
@@ -37,14 +37,14 @@ static void run_inputs(const contestant *who, const call *calls, size_t inputs, 
             run_call(who, &calls[i], &o);
 }
 
-/* Nanoseconds a coefficient. The stack begins at a random place of a page, so that no time depends on one layout. */
+/* Nanoseconds a coefficient or record. The stack begins at a random place of a page, so that no time depends on one layout. */
 static double time_inputs(const contest *in, size_t who, const call *calls, size_t passes)
 {
     volatile char skipped[random_within(1, 4096)];
     (void)skipped[0];
     double start = now_ns();
     run_inputs(&in->contestants[who], calls, in->inputs, passes);
-    return (now_ns() - start) / (passes * in->inputs * in->m);
+    return (now_ns() - start) / (passes * in->inputs * units(in, calls->p));
 }
 
 static void shuffle(size_t order[], size_t count)
@@ -80,7 +80,7 @@ static void time_all(const contest *in, table least)
     for (size_t at = 0; at < in->points_len; at++) {
         calls[at] = make_calls(in, in->points[at]);
         time_round(in, calls[at], 1, least[at]);
-        passes[at] = 1 + BATCH_NS / (least[at][0] * in->inputs * in->m);
+        passes[at] = 1 + BATCH_NS / (least[at][0] * in->inputs * units(in, in->points[at]));
     }
     for (size_t round = 0; round < ROUNDS; round++)
         for (size_t at = 0; at < in->points_len; at++)
@@ -118,7 +118,7 @@ static size_t find_contestant(const contest *in, const char *name)
     return who;
 }
 
-/* Reads lines 'CONTEST POINT NAME VALUE', of which the least value counts. `whole`: for all inputs, not for one coefficient. */
+/* Reads lines 'CONTEST POINT NAME VALUE', of which the least value counts. `whole`: for all inputs, not for one coefficient or record. */
 static bool read_values(table values[CONTESTS], bool whole)
 {
     size_t at, lines = 0, expected = 0;
@@ -128,7 +128,7 @@ static bool read_values(table values[CONTESTS], bool whole)
         const contest *in = find_contest(contest_name);
         if (in == NULL || at >= in->points_len || find_contestant(in, name) == in->count)
             return false;
-        value /= whole ? in->inputs * in->m : 1;
+        value /= whole ? in->inputs * units(in, in->points[at]) : 1;
         double *kept = &values[in - contests][at][find_contestant(in, name)];
         if (*kept == 0 || value < *kept)
             *kept = value;

@@ -36,6 +36,12 @@ size_t words_needed(const contest *in, point p, size_t m)
     return in->task == VALUES ? TP_VALUE_WORDS(p.n, p.k) : TP_POLYNOMIAL_WORDS(p.n, p.k, m);
 }
 
+/* The coefficients or records of a call, by which it is timed. */
+size_t units(const contest *in, point p)
+{
+    return in->task == STEPS ? TP_STEP_RECORDS(p.n, p.k) : in->m;
+}
+
 /* The bytes of a point, whose k is that of set 1 or 2. */
 static void make_split(call *c, point p)
 {
@@ -68,6 +74,8 @@ static void make_sample(call *c, const contest *in, point p, size_t m)
     c->x = make_list(shares, 1u << p.k);
     c->y = make_list(shares, 1u << p.k);
     c->words = make_list(c->words_len, p.q);
+    if (in->task == STEPS)
+        c->records_len = TP_STEP_BYTES(p.n, p.k) + random_within(0, SPARE);
 }
 
 /* An accepted call. */

@@ -33,6 +33,15 @@ static inline void double_and_add(uint16_t totals[8], const uint16_t row[8], siz
 }
 
 #include "value.h"
+#elif defined IS_steps
+/* vb is below q. */
+static inline uint32_t product(uint32_t v, uint32_t b, uint32_t q)
+{
+    (void)q;
+    return v * b;
+}
+
+#include "steps.h"
 #else
 #include "sampler.h"
 #endif

@@ -5,11 +5,13 @@ sampler plain_sample_gcc, careful_sample_gcc;
 polynomial_sampler careful_polynomial_gcc;
 noise_splitter plain_noise_gcc, careful_noise_gcc;
 value_converter plain_value_gcc, careful_value_gcc;
+step_sampler plain_steps_gcc, careful_steps_gcc;
 #ifdef WITH_CLANG
 sampler plain_sample_clang, careful_sample_clang;
 polynomial_sampler careful_polynomial_clang;
 noise_splitter plain_noise_clang, careful_noise_clang;
 value_converter plain_value_clang, careful_value_clang;
+step_sampler plain_steps_clang, careful_steps_clang;
 enum { COMPILERS = 2 };
 #else
 enum { COMPILERS = 1 };
@@ -18,6 +20,7 @@ enum { COMPILERS = 1 };
 static const point sampler_points[] = {{2, 2, 3329}, {3, 3, 3329}, {4, 8, 12289}, {8, 16, 12289}};
 static const point split_points[] = {{2, 2, 3329}, {3, 3, 3329}, {4, 2, 3329}, {8, 3, 3329}};
 static const point value_points[] = {{2, 12, 3329}, {4, 12, 3329}, {8, 16, 12289}};
+static const point step_points[] = {{3, 2, 3329}, {8, 16, 12289}};
 
 /* The last is a polynomial's alone. */
 static const enum tp_code sampler_checks[] = {TP_SHARE_COUNT, TP_STRING_LENGTH, TP_MODULUS,    TP_X_COUNT,     TP_Y_COUNT,   TP_X_WIDTH,
@@ -25,12 +28,15 @@ static const enum tp_code sampler_checks[] = {TP_SHARE_COUNT, TP_STRING_LENGTH, 
 static const enum tp_code split_checks[] = {TP_SHARE_COUNT, TP_SET_NUMBER, TP_NOISE_SET, TP_NOISE_LENGTH, TP_OUTPUT_ROOM};
 static const enum tp_code value_checks[] = {TP_SHARE_COUNT, TP_STRING_LENGTH, TP_MODULUS,    TP_X_COUNT,
                                             TP_X_WIDTH,     TP_WORD_COUNT,    TP_WORD_RANGE, TP_OUTPUT_ROOM};
+static const enum tp_code step_checks[] = {TP_SHARE_COUNT, TP_STRING_LENGTH, TP_MODULUS,    TP_X_COUNT,     TP_Y_COUNT,   TP_X_WIDTH,
+                                           TP_Y_WIDTH,     TP_WORD_COUNT,    TP_WORD_RANGE, TP_OUTPUT_ROOM, TP_WORK_ROOM, TP_RECORD_ROOM};
 
 #define CALLS_SAMPLE(kind, title, name) {kind, title, #name, false, .sample = name}
 #define CALLS_STARTING(kind, title, name) {kind, title, #name, false, .starting = name}
 #define CALLS_POLYNOMIAL(kind, title, name) {kind, title, #name, true, .polynomial = name}
 #define CALLS_SPLIT(kind, title, name) {kind, title, #name, true, .split = name}
 #define CALLS_CONVERT(kind, title, name) {kind, title, #name, true, .convert = name}
+#define CALLS_STEPS(kind, title, name) {kind, title, #name, true, .steps = name}
 
 const contest contests[CONTESTS] = {
     {
@@ -133,6 +139,33 @@ const contest contests[CONTESTS] = {
                 CALLS_CONVERT(CAREFUL, "careful gcc", careful_value_gcc),
 #ifdef WITH_CLANG
                 CALLS_CONVERT(CAREFUL, "careful clang", careful_value_clang),
+#endif
+            },
+    },
+    {
+        .name = "steps",
+        .title = "samples with step records",
+        .unit = "record",
+        .points_len = 2,
+        .points = step_points,
+        .task = STEPS,
+        .m = 1,
+        .inputs = 16,
+        .agreements = 20,
+        .checks_len = 12,
+        .checks = step_checks,
+        .goals = {{PLAIN, "plain C", 0, 0, 2}, {CAREFUL, "careful C", 0, 0, 2}},
+        .count = 1 + 2 * COMPILERS,
+        .contestants =
+            {
+                CALLS_STEPS(LIBRARY, "library", tp_sample_steps),
+                CALLS_STEPS(PLAIN, "plain gcc", plain_steps_gcc),
+#ifdef WITH_CLANG
+                CALLS_STEPS(PLAIN, "plain clang", plain_steps_clang),
+#endif
+                CALLS_STEPS(CAREFUL, "careful gcc", careful_steps_gcc),
+#ifdef WITH_CLANG
+                CALLS_STEPS(CAREFUL, "careful clang", careful_steps_clang),
 #endif
             },
     },

@@ -1,4 +1,5 @@
-/* The contests: who samples, splits or converts what, on which calls. A sample is seen as a polynomial of one coefficient, and so is a value. */
+/* The contests: who samples, splits or converts what, on which calls. A sample, also one with step records, is seen as a polynomial of one
+ * coefficient, and so is a value. */
 #ifndef BENCH_CONTEST_H
 #define BENCH_CONTEST_H
 
@@ -12,7 +13,7 @@ enum {
     MAX_WORK = TP_SAMPLE_WORK(TP_MAX_SHARES),
     MAX_CONTESTANTS = 5,
     MAX_POINTS = 4,
-    CONTESTS = 4,
+    CONTESTS = 5,
     GOALS = 2
 };
 
@@ -26,13 +27,15 @@ typedef tp_answer polynomial_sampler(size_t n, size_t k, uint16_t q, size_t m, c
                                      size_t work_len);
 typedef tp_answer noise_splitter(size_t n, size_t set, const uint8_t *bytes, size_t bytes_len, uint16_t *x, size_t x_len, uint16_t *y,
                                  size_t y_len);
-
+typedef tp_answer step_sampler(size_t n, size_t k, uint16_t q, const uint16_t *x, size_t x_len, const uint16_t *y, size_t y_len,
+                               const uint16_t *words, size_t words_len, uint16_t *out, size_t out_len, uint16_t *work, size_t work_len,
+                               uint8_t *records, size_t records_len);
 typedef tp_answer value_converter(size_t n, size_t k, uint16_t q, const uint16_t *shares, size_t shares_len, const uint16_t *words,
                                   size_t words_len, uint16_t *out, size_t out_len);
 
 typedef enum { LIBRARY, SINGLE, PLAIN, CAREFUL } kind;
 
-/* `whole`: `polynomial`, `split` or `convert` is called once; else `sample` or `starting` for each coefficient. `name` is the function's. */
+/* `whole`: `polynomial`, `split`, `convert` or `steps` is called once; else `sample` or `starting` for each coefficient. `name` is the function's. */
 typedef struct {
     kind kind;
     const char *title, *name;
@@ -42,6 +45,7 @@ typedef struct {
     polynomial_sampler *polynomial;
     noise_splitter *split;
     value_converter *convert;
+    step_sampler *steps;
 } contestant;
 
 /* At most this share of the time of the fastest of a kind, from n shares on; missed where it is exceeded by more than the noise. Where it is 0 there
@@ -58,8 +62,8 @@ typedef struct {
     uint16_t q;
 } point;
 
-/* A split takes no random words, and its k is 2 or 3. */
-typedef enum { SAMPLES, SPLITS, VALUES } task;
+/* A split takes no random words, and its k is 2 or 3. Samples with step records are timed by the record, all else by the coefficient. */
+typedef enum { SAMPLES, SPLITS, VALUES, STEPS } task;
 
 /* The goals are about the first contestant. It is timed on `inputs` calls of m coefficients; agreement is tried `agreements` times at every n and k,
  * with calls unfit for these checks. */
@@ -81,14 +85,16 @@ typedef struct {
     point p;
     size_t m, x_len, y_len, words_len, out_len, work_len, other_shares, other_words;
     uint16_t *x, *y, *words;
-    size_t set, bytes_len;
+    size_t set, bytes_len, records_len;
     uint8_t *bytes;
 } call;
 
-/* What a call leaves behind: a sampler its work area and output, a conversion its output, a split x in place of the output, and y. */
+/* What a call leaves behind: a sampler its work area and output, and records where it makes them, a conversion its output, a split x in place of
+ * the output, and y. */
 typedef struct {
     tp_answer answer;
     uint16_t work[MAX_WORK + SPARE], out[MAX_SHARES + SPARE], y[MAX_SHARES + SPARE];
+    uint8_t records[TP_STEP_BYTES(TP_MAX_SHARES, TP_MAX_BITS) + SPARE];
 } outcome;
 
 /* One number for each point and contestant. */
@@ -98,6 +104,7 @@ extern const contest contests[CONTESTS];
 
 /* calls.c */
 size_t words_needed(const contest *in, point p, size_t m);
+size_t units(const contest *in, point p);
 size_t random_within(size_t low, size_t high);
 void make_call(call *c, const contest *in, point p, size_t m);
 void free_call(call *c);
@@ -117,6 +124,9 @@ static inline tp_answer run_whole(const contestant *who, const call *c, outcome 
         return who->split(p.n, c->set, c->bytes, c->bytes_len, o->out, c->x_len, o->y, c->y_len);
     if (who->convert != NULL)
         return who->convert(p.n, p.k, p.q, c->x, c->x_len, c->words, c->words_len, o->out, c->out_len);
+    if (who->steps != NULL)
+        return who->steps(p.n, p.k, p.q, c->x, c->x_len, c->y, c->y_len, c->words, c->words_len, o->out, c->out_len, o->work, c->work_len, o->records,
+                          c->records_len);
     return who->polynomial(p.n, p.k, p.q, c->m, c->x, c->x_len, c->y, c->y_len, c->words, c->words_len, o->out, c->out_len, o->work, c->work_len);
 }
 

@@ -25,6 +25,13 @@ static inline void double_and_add(uint16_t totals[8], const uint16_t row[8], siz
 }
 
 #include "value.h"
+#elif defined IS_steps
+static inline uint32_t product(uint32_t v, uint32_t b, uint32_t q)
+{
+    return v * b % q;
+}
+
+#include "steps.h"
 #else
 #include "sampler.h"
 #endif

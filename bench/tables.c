@@ -13,6 +13,12 @@ static void print_point(point p)
     printf("%2zu %2zu %6u", p.n, p.k, (unsigned)p.q);
 }
 
+/* Whether numbers are also shown by the random word: a split takes none, and a record has no certain number of them. */
+static bool by_word(const contest *in)
+{
+    return in->task == SAMPLES || in->task == VALUES;
+}
+
 /* `per_word`: each number divided by the random words of a coefficient. */
 static void print_values(const contest *in, const char *what, const table values, bool per_word)
 {
@@ -24,7 +30,7 @@ static void print_values(const contest *in, const char *what, const table values
         point p = in->points[at];
         print_point(p);
         for (size_t who = 0; who < in->count; who++)
-            printf(" %14.*f", per_word || in->task == SPLITS ? 2 : 1, values[at][who] / (per_word ? words_needed(in, p, 1) : 1));
+            printf(" %14.*f", per_word || !by_word(in) ? 2 : 1, values[at][who] / (per_word ? words_needed(in, p, 1) : 1));
         putchar('\n');
     }
     putchar('\n');
@@ -79,7 +85,7 @@ static void print_tables(const contest *in, const char *what, const char *compar
 {
     printf("-- %s\n", in->title);
     print_values(in, what, values, false);
-    if (in->task != SPLITS)
+    if (by_word(in))
         print_values(in, what, values, true);
     print_ratios(in, compared, values);
 }

@@ -25,6 +25,15 @@ tp_answer tp_sample(size_t n, size_t k, uint16_t q, const uint16_t *x, size_t x_
     return branch(words, words_len, out);
 }
 
+tp_answer tp_sample_steps(size_t n, size_t k, uint16_t q, const uint16_t *x, size_t x_len, const uint16_t *y, size_t y_len,
+                          const uint16_t *words, size_t words_len, uint16_t *out, size_t out_len, uint16_t *work, size_t work_len,
+                          uint8_t *records, size_t records_len)
+{
+    (void)n, (void)k, (void)q, (void)x, (void)x_len, (void)y, (void)y_len, (void)out_len, (void)work, (void)work_len;
+    (void)records, (void)records_len;
+    return branch(words, words_len, out);
+}
+
 tp_answer tp_sample_polynomial(size_t n, size_t k, uint16_t q, size_t m, const uint16_t *x, size_t x_len, const uint16_t *y, size_t y_len,
                                const uint16_t *words, size_t words_len, uint16_t *out, size_t out_len, uint16_t *work, size_t work_len)
 {

@@ -99,6 +99,8 @@ static void run_pass(enum pass next)
     sampler_cases();
     sample_all_sizes();
     start_cases();
+    step_cases();
+    step_refusals();
     polynomial_cases();
     area_cases();
     noise_cases();

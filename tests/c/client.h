@@ -6,6 +6,7 @@
 #include "tinplateau.h"
 
 enum { SPARE = 3, SHARES = 8, BITS = 16, COEFFICIENTS = 256, VALUE_WORDS = BITS * SHARES * (SHARES - 1), SAMPLE_WORDS = 2 * VALUE_WORDS };
+enum { RECORD = 8, BIT_RECORDS = 5 * SHARES * (SHARES + 1) / 2 - 3, STEP_BYTES = RECORD * 2 * BITS * BIT_RECORDS };
 
 /* A call of tp_mask and what it is to answer. */
 struct mask_case {
@@ -40,7 +41,7 @@ struct value_case {
     list shares;
 };
 
-/* A call of tp_sample, or of tp_sample_polynomial, and what it is to answer. */
+/* A call of tp_sample, of tp_sample_polynomial or of tp_sample_steps, and what it is to answer. */
 struct sample_case {
     int line;
     size_t n, k;
@@ -81,6 +82,8 @@ size_t sample(const struct sample_case *c, origin from, size_t spare, uint16_t s
 void sample_polynomial(size_t m, const struct sample_case *c, size_t spare, uint16_t *shares);
 /* The same with this content in front of the work area. With no number of coefficients it is one sample. A polynomial starts at the front. */
 size_t call_sampler(const size_t *m, const struct sample_case *c, origin from, size_t spare, list before, uint16_t *shares);
+/* The same with tp_sample_steps, which has so many bytes for the records. Those of an accepted call are given. */
+void sample_steps(const struct sample_case *c, size_t room, size_t spare, const uint8_t *records, uint16_t shares[SHARES]);
 /* The same with what the case has room for. The shares are given. */
 void split_noise(const struct noise_case *c);
 
@@ -90,6 +93,9 @@ tp_residue open_residue(size_t n, uint16_t q, const uint16_t *shares);
 
 /* The row of a bit whose shares are b, with the words from r on, by the written steps. */
 void convert_row(size_t n, uint32_t q, const uint16_t *b, const uint16_t *r, uint32_t row[SHARES]);
+
+/* The records of a call that is accepted, by the written steps. Answers their bytes. */
+size_t expect_records(const struct sample_case *c, uint8_t records[STEP_BYTES]);
 
 /* The shares begin with those expected. */
 void check_shares(const uint16_t *shares, list expected);
@@ -103,6 +109,8 @@ void value_cases(void);
 void value_refusals(void);
 void sampler_cases(void);
 void start_cases(void);
+void step_cases(void);
+void step_refusals(void);
 void polynomial_cases(void);
 void area_cases(void);
 void noise_cases(void);

@@ -1,5 +1,6 @@
-/* One call: count tp_sample 1 n k q input, count tp_sample_polynomial m n k q input, count tp_convert_value 1 n k q input, or count tp_split_noise
- * 256 n k 3329 input. Input 0 is all zeros, 1 all largest values, and another number a seed. A sample starts behind words of any value. */
+/* One call: count tp_sample 1 n k q input, count tp_sample_steps 1 n k q input, count tp_sample_polynomial m n k q input, count tp_convert_value
+ * 1 n k q input, or count tp_split_noise 256 n k 3329 input. Input 0 is all zeros, 1 all largest values, and another number a seed. tp_sample starts
+ * behind words of any value. */
 #include "seeded.h"
 #include "tinplateau.h"
 
@@ -46,6 +47,19 @@ static int count_value(size_t m, size_t n, size_t k, uint16_t q, unsigned long i
     return answer.code == 0 && answer.value == used ? EXIT_SUCCESS : EXIT_FAILURE;
 }
 
+static int count_steps(size_t m, size_t n, size_t k, uint16_t q, unsigned long input)
+{
+    static uint8_t records[TP_STEP_BYTES(SHARES, BITS)];
+    size_t used = TP_SAMPLE_WORDS(n, k), room = TP_STEP_BYTES(n, k);
+    if (m != 1 || n > SHARES || k > BITS)
+        return EXIT_FAILURE;
+    make(x, n, 1u << k, input);
+    make(y, n, 1u << k, input);
+    make(words, used, q, input);
+    tp_answer answer = tp_sample_steps(n, k, q, x, n, y, n, words, used, out, n, work, n, records, room);
+    return answer.code == 0 && answer.value == used ? EXIT_SUCCESS : EXIT_FAILURE;
+}
+
 int main(int argc, char **argv)
 {
     if (argc != 7)
@@ -58,6 +72,8 @@ int main(int argc, char **argv)
         return count_split(m, n, k, q, input);
     if (strcmp(argv[1], "tp_convert_value") == 0)
         return count_value(m, n, k, q, input);
+    if (strcmp(argv[1], "tp_sample_steps") == 0)
+        return count_steps(m, n, k, q, input);
     if (m > MOST || n > SHARES || k > BITS)
         return EXIT_FAILURE;
     make(x, shares, 1u << k, input);

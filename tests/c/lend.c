@@ -57,12 +57,12 @@ static void *allocate(size_t size)
     return block;
 }
 
-void *map_edge(void)
+void *map_edge(size_t size)
 {
-    size_t page = (size_t)sysconf(_SC_PAGESIZE);
-    unsigned char *pages = mmap(NULL, 2 * page, PROT_READ | PROT_WRITE, MAP_PRIVATE | MAP_ANONYMOUS, -1, 0);
-    require(pages != MAP_FAILED && mprotect(pages + page, page, PROT_NONE) == 0);
-    return pages + page;
+    size_t page = (size_t)sysconf(_SC_PAGESIZE), used = (size + page - 1) / page * page;
+    unsigned char *pages = mmap(NULL, used + page, PROT_READ | PROT_WRITE, MAP_PRIVATE | MAP_ANONYMOUS, -1, 0);
+    require(pages != MAP_FAILED && mprotect(pages + used, page, PROT_NONE) == 0);
+    return pages + used;
 }
 
 static void copy(void *to, const void *from, size_t size)

@@ -62,8 +62,8 @@ void take_back_kept(lent buffer);
 /* The same for a buffer whose first words the call may have written. They are copied. */
 void take_back_words(lent buffer, uint16_t *words, size_t count);
 
-/* The end of a page, behind which nothing can be read or written. It is kept to the end. */
-void *map_edge(void);
+/* The end of so many bytes or more, behind which nothing can be read or written. They are kept to the end. */
+void *map_edge(size_t size);
 
 /* Size 0 is equal, whatever the pointers. */
 bool equal(const void *a, const void *b, size_t size);

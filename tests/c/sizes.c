@@ -25,6 +25,27 @@ static void sample_sizes(size_t n, size_t k)
     }
 }
 
+/* The same with step records. */
+static void step_zeros(size_t n, size_t k, size_t words, size_t work, size_t room, tp_answer answer)
+{
+    static uint8_t records[STEP_BYTES];
+    uint16_t shares[SHARES];
+    struct sample_case c = CASE(n, k, 65535, {zeros, n}, {zeros, n}, {zeros, words}, n, work, answer, NONE);
+    if (answer.code == TP_ACCEPTED)
+        expect_records(&c, records);
+    sample_steps(&c, room, 0, records, shares);
+}
+
+static void step_sizes(size_t n, size_t k)
+{
+    size_t words = TP_SAMPLE_WORDS(n, k), work = TP_SAMPLE_WORK(n), room = TP_STEP_BYTES(n, k);
+    CHECK(room == 8 * TP_STEP_RECORDS(n, k));
+    step_zeros(n, k, words, work, room, (tp_answer){TP_ACCEPTED, words});
+    step_zeros(n, k, words, work, room - 1, (tp_answer){TP_RECORD_ROOM, 0});
+    step_zeros(n, k, words, work - 1, room, (tp_answer){TP_WORK_ROOM, 0});
+    step_zeros(n, k, words - 1, work, room, (tp_answer){TP_WORD_COUNT, 0});
+}
+
 /* A polynomial of zeros. */
 static void polynomial_zeros(size_t n, size_t k, size_t m, size_t shares, size_t words, size_t out, size_t work, tp_answer answer)
 {
@@ -42,6 +63,11 @@ static void polynomial_sizes(size_t n, size_t k, size_t m)
     polynomial_zeros(n, k, m, shares, words - 1, shares, work, (tp_answer){TP_WORD_COUNT, 0});
     polynomial_zeros(n, k, m, shares, words, shares - 1, work, (tp_answer){TP_OUTPUT_ROOM, 0});
     polynomial_zeros(n, k, m, shares, words, shares, work - 1, (tp_answer){TP_WORK_ROOM, 0});
+}
+
+static void step_unfit(size_t n, size_t k, uint32_t code)
+{
+    step_zeros(n, k, TP_MAX_WORDS, TP_SAMPLE_WORK(n), TP_STEP_BYTES(n, k), (tp_answer){code, 0});
 }
 
 static void polynomial_unfit(size_t m)
@@ -112,6 +138,7 @@ static void all_sizes(void)
         for (size_t k = TP_MIN_BITS; k <= TP_MAX_BITS; k++) {
             value_sizes(n, k);
             sample_sizes(n, k);
+            step_sizes(n, k);
             polynomial_sizes(n, k, TP_MIN_COEFFICIENTS + (n + k) % 3);
         }
     }
@@ -126,6 +153,8 @@ static void limits(void)
     CHECK(TP_POLYNOMIAL_SHARES(1 + 1, 1 + 2) == 6 && TP_POLYNOMIAL_WORDS(1 + 1, 1 + 2, 1 + 1) == 24);
     CHECK(TP_NOISE_BYTES(1 + 1, 1 + 2) == 384 && TP_NOISE_SHARES(1 + 1) == 512);
     CHECK(TP_VALUE_WORDS(1 + 2, 1 + 1) == 12 && 12 / TP_VALUE_WORDS(1 + 1, 1 + 2) == 2);
+    CHECK(TP_STEP_RECORDS(TP_MAX_SHARES, TP_MAX_BITS) == 5664 && TP_STEP_RECORDS(TP_MIN_SHARES, TP_MIN_BITS) == 24);
+    CHECK(TP_STEP_RECORDS(1 + 2, 1 + 1) == 108 && TP_STEP_BYTES(1 + 1, 1 + 2) == 576 && 576 / TP_STEP_BYTES(1 + 1, 1 + 2) == 1);
     value_zeros(TP_MIN_SHARES - 1, 1, TP_MAX_WORDS, TP_MAX_SHARES, (tp_answer){TP_SHARE_COUNT, 0});
     value_zeros(TP_MAX_SHARES + 1, 1, TP_MAX_WORDS, TP_MAX_SHARES + 1, (tp_answer){TP_SHARE_COUNT, 0});
     value_zeros(2, TP_MIN_BITS - 1, TP_MAX_WORDS, 2, (tp_answer){TP_STRING_LENGTH, 0});
@@ -134,6 +163,10 @@ static void limits(void)
     sample_zeros(TP_MAX_SHARES + 1, 1, TP_MAX_WORDS, 0, work, (tp_answer){TP_SHARE_COUNT, 0});
     sample_zeros(2, TP_MIN_BITS - 1, TP_MAX_WORDS, 0, work, (tp_answer){TP_STRING_LENGTH, 0});
     sample_zeros(2, TP_MAX_BITS + 1, TP_MAX_WORDS, 0, work, (tp_answer){TP_STRING_LENGTH, 0});
+    step_unfit(TP_MIN_SHARES - 1, 1, TP_SHARE_COUNT);
+    step_unfit(TP_MAX_SHARES + 1, 1, TP_SHARE_COUNT);
+    step_unfit(2, TP_MIN_BITS - 1, TP_STRING_LENGTH);
+    step_unfit(2, TP_MAX_BITS + 1, TP_STRING_LENGTH);
     polynomial_unfit(TP_MIN_COEFFICIENTS - 1);
     polynomial_unfit(TP_MAX_COEFFICIENTS + 1);
     noise_unfit(TP_MIN_SHARES - 1, 1, TP_SHARE_COUNT);

@@ -154,7 +154,7 @@ static void convert_bits(size_t n, size_t k, uint16_t q)
 static uint16_t *lend_edge(uint16_t **edge, const uint16_t *words, size_t len)
 {
     if (*edge == NULL)
-        *edge = map_edge();
+        *edge = map_edge(VALUE_WORDS * sizeof *words);
     return memcpy(*edge - len, words, len * sizeof *words);
 }
 

@@ -1,6 +1,6 @@
 # Reads x86-64 machine code (objdump -dr --no-show-raw-insn) and walks every function that is called or jumped to from tp_convert_bit,
-# tp_convert_value, tp_sample, tp_sample_polynomial and tp_split_noise. Fails where one divides, where a call or jump is indirect and where a
-# function is missing. The C library's memcpy, memmove and memset may be.
+# tp_convert_value, tp_sample, tp_sample_steps, tp_sample_polynomial and tp_split_noise. Fails where one divides, where a call or jump is indirect
+# and where a function is missing. The C library's memcpy, memmove and memset may be.
 
 function fail(message) {
     print "walk: " message
@@ -96,6 +96,7 @@ END {
     visit("tp_convert_bit")
     visit("tp_convert_value")
     visit("tp_sample")
+    visit("tp_sample_steps")
     visit("tp_sample_polynomial")
     visit("tp_split_noise")
     for (i = 1; i <= queued; i++)

@@ -5,6 +5,7 @@ use crate::lent::{guarded, unguarded, GUARDS};
 use crate::lesson::{lesson, MOST_BYTES, MOST_WORDS};
 use crate::noise::split;
 use crate::show::{difference, hex};
+use crate::steps::sample_steps;
 use crate::text::Text;
 use crate::value::convert_value;
 
@@ -19,13 +20,14 @@ pub enum Function {
     ConvertBit,
     ConvertValue,
     Sample,
+    SampleSteps,
     SamplePolynomial,
     SplitNoise,
     LessonText,
     ReportText,
 }
 
-pub const FUNCTIONS: [Function; 13] = [
+pub const FUNCTIONS: [Function; 14] = [
     Function::Mask,
     Function::OpenString,
     Function::OpenResidue,
@@ -35,6 +37,7 @@ pub const FUNCTIONS: [Function; 13] = [
     Function::ConvertBit,
     Function::ConvertValue,
     Function::Sample,
+    Function::SampleSteps,
     Function::SamplePolynomial,
     Function::SplitNoise,
     Function::LessonText,
@@ -79,6 +82,10 @@ impl Function {
             Function::Sample => {
                 let refusals = &[(1, 0), (2, 0), (3, 0), (4, 0), (5, 0), (6, 7), (7, 7), (8, 0), (9, 1_791), (10, 0), (11, 0)];
                 form("tp_sample", &["n", "k", "q", "start"], &["x", "y", "words", "out", "work"], refusals)
+            }
+            Function::SampleSteps => {
+                let refusals = &[(1, 0), (2, 0), (3, 0), (4, 0), (5, 0), (6, 7), (7, 7), (8, 0), (9, 1_791), (10, 0), (11, 0), (26, 0)];
+                form("tp_sample_steps", &["n", "k", "q"], &["x", "y", "words", "out", "work", "records"], refusals)
             }
             Function::SamplePolynomial => {
                 let refusals = &[(1, 0), (2, 0), (3, 0), (23, 0), (4, 0), (5, 0), (6, 2_047), (7, 2_047), (8, 0), (9, 458_751), (10, 0), (11, 0)];
@@ -205,6 +212,9 @@ impl Call {
             (Function::ConvertBit, &[n, q, start], [bits, words, out]) => counted(convert_bit(n, q, bits, words, start, out)),
             (Function::ConvertValue, &[n, k, q], [shares, words, out]) => counted(convert_value([n, k, q], shares, words, out)),
             (Function::Sample, &[n, k, q, start], [x, y, words, out, work]) => counted(sample([n, k, q], [x, y], words, start, out, work)),
+            (Function::SampleSteps, &[n, k, q], [x, y, words, out, work, records]) => {
+                counted(sample_steps([n, k, q], [x, y], words, out, work, records))
+            }
             (Function::SamplePolynomial, &[n, k, q, m], [x, y, words, out, work]) => counted(coefficients([n, k, q, m], [x, y], words, 0, out, work)),
             (Function::SplitNoise, &[n, set], [bytes, x, y]) => counted(split(n, set, bytes, x, y)),
             (function, [], [file, words, out]) => {
@@ -224,7 +234,7 @@ impl Call {
             text += &format!(" {name} {number}");
         }
         for (name, list) in form.lists.iter().zip(&self.lists) {
-            let elements = if ["file", "bytes"].contains(name) { hex(&bytes(list)) } else { some(list) };
+            let elements = if ["file", "bytes", "records"].contains(name) { hex(&bytes(list)) } else { some(list) };
             text += &format!("\n  {name}, {} elements:{elements}", list.len());
         }
         text

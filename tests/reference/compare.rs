@@ -152,8 +152,8 @@ fn example_cases(text: Text, folder: &str) -> Vec<Case> {
         let file_name = entry.expect("a folder entry").file_name().into_string().expect("a name in UTF-8");
         match file_name.rsplit_once('.') {
             Some((name, "lesson" | "txt" | "report")) => names.insert(name.to_string()),
-            // A program in C stands there too.
-            _ if file_name == "sample.c" => continue,
+            // Programs in C stand there too.
+            Some((_, "c")) => continue,
             _ => panic!("{folder}: {file_name} is no lesson and no text of one"),
         };
     }

@@ -7,6 +7,7 @@ use crate::lesson::MOST_WORDS;
 use crate::noise;
 use crate::splits;
 use crate::start;
+use crate::steps_drawn;
 use crate::text::Text;
 use crate::values;
 use crate::work;
@@ -37,7 +38,7 @@ pub enum Fault {
 
 /// Whether q is asked to be above 2k.
 fn samples(function: Function) -> bool {
-    matches!(function, Function::Sample | Function::SamplePolynomial)
+    matches!(function, Function::Sample | Function::SampleSteps | Function::SamplePolynomial)
 }
 
 /// A call, n, k, q, m and start as it was made with them, and how many elements of each list it needs, of the words from the start on.
@@ -119,6 +120,7 @@ pub fn good(dice: &mut Dice, seed: u64, turn: usize, function: Function, [n, k, 
             (vec![n, q, start], lists, vec![n, needed, n])
         }
         Function::ConvertValue => values::drawn(dice, n, k),
+        Function::SampleSteps => steps_drawn::drawn(dice, n, k),
         Function::Sample | Function::SamplePolynomial => coefficients(dice, function, [n, k, q, m]),
         // Set 1 has k 2, set 2 has k 3.
         Function::SplitNoise => {
@@ -169,7 +171,8 @@ impl Draft {
             self.set(name, change(dice, number));
             return;
         }
-        let (n, by_bits, (list, needed)) = (self.n, self.call.function == Function::ConvertValue && name == "words", self.list(name));
+        let by_bits = matches!(self.call.function, Function::ConvertValue | Function::SampleSteps) && name == "words";
+        let (n, (list, needed)) = (self.n, self.list(name));
         let judged = needed.start..list.len().min(needed.end);
         let places = if judged.is_empty() { 0 } else { dice.between(1, 2) };
         for _ in 0..places {
@@ -190,10 +193,18 @@ impl Draft {
         let (any, element) = (dice.between(end as u64 + 1, end as u64 + 20) as usize, list.first().copied().unwrap_or(0));
         let len = match function {
             Function::SplitNoise => splits::unfit_length(dice, n, k) as usize,
-            Function::ConvertValue => values::unfit_length(dice, n) as usize,
+            Function::ConvertValue | Function::SampleSteps => values::unfit_length(dice, n) as usize,
             _ => dice.pick(&[end.saturating_sub(1), end + 1, 0, any]),
         };
         list.resize(len, element);
+    }
+
+    /// A list gets fewer elements than the call needs.
+    fn shorten(&mut self, dice: &mut Dice, name: &str) {
+        let (list, Range { start, end }) = self.list(name);
+        let any = dice.below(end.max(1) as u64) as usize;
+        let most = end.saturating_sub(1);
+        list.truncate(dice.pick(&[most, most, start, 0, any, any]));
     }
 
     /// An unfit n. Where all sizes of noise are 0 or wrap to it, mostly with empty lists.
@@ -202,20 +213,35 @@ impl Draft {
         let n = match function {
             Function::SplitNoise => splits::unfit_shares(dice, n),
             Function::ConvertValue => values::unfit_shares(dice, n),
+            Function::SampleSteps => steps_drawn::unfit_shares(dice, n),
             _ => dice.pick(&[0, 1, 9, 10, 255, 258, 65_538, 1 << 32 | 2, 1 << 63 | 2, u64::MAX - 1, u64::MAX]),
         };
         self.set("n", n);
         if function == Function::SplitNoise && n % (1 << 58) == 0 && !dice.one_in(3) {
-            self.call.lists.iter_mut().for_each(Vec::clear);
+            self.empty_lists();
+        }
+        self.empty_for_largest(dice, n);
+    }
+
+    fn empty_lists(&mut self) {
+        self.call.lists.iter_mut().for_each(Vec::clear);
+    }
+
+    /// With step records and the largest n or k the lists are at times empty.
+    fn empty_for_largest(&mut self, dice: &mut Dice, number: u64) {
+        if self.call.function == Function::SampleSteps && number == u64::MAX && dice.one_in(2) {
+            self.empty_lists();
         }
     }
 
     fn spoil_bits(&mut self, dice: &mut Dice) {
         let k = match self.call.function {
             Function::ConvertValue => values::unfit_bits(dice, self.k),
+            Function::SampleSteps => steps_drawn::unfit_bits(dice, self.k),
             _ => dice.pick(&[0, 17, 18, 32, 64, 65, 257, 65_537, 1 << 32 | 1, 1 << 63 | 1, u64::MAX - 1, u64::MAX]),
         };
         self.set("k", k);
+        self.empty_for_largest(dice, k);
     }
 
     /// A set that is not for noise, at times with as many bytes as its k asks for.
@@ -251,12 +277,11 @@ impl Draft {
             OtherSet => self.choose_other_set(dice),
             Set => self.set("number", dice.pick(&[0, 8, 9, 255, 257, 65_537, 1 << 32 | 1, 1 << 63 | 1, u64::MAX])),
             Length(name) => self.change_length(dice, name),
-            Short(name) => {
-                let (list, Range { start, end }) = self.list(name);
-                let any = dice.below(end.max(1) as u64) as usize;
-                let most = end.saturating_sub(1);
-                list.truncate(dice.pick(&[most, most, start, 0, any, any]));
+            Short("records") => {
+                let len = steps_drawn::too_few(dice, self.n, k) as usize;
+                self.list("records").0.truncate(len);
             }
+            Short(name) => self.shorten(dice, name),
             Start => self.start_too_far(dice),
             Wide(name) if k < 16 => self.change(dice, name, |dice, share| too_wide(dice, share, k)),
             // No share has more than 16 bits.

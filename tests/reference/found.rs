@@ -85,8 +85,10 @@ impl Call {
         if let Some(text) = self.function.text() {
             return self.text_of_file(text, layer);
         }
-        if self.function == Function::SplitNoise {
-            return self.split_of_noise(layer);
+        match self.function {
+            Function::SplitNoise => return self.split_of_noise(layer),
+            Function::SampleSteps => return self.steps_of_sample(layer),
+            _ => (),
         }
         let mut lent: Vec<Lent<u16>> = self.lists.iter().map(|list| layer.lent(list)).collect();
         let answer = match layer {
@@ -174,6 +176,26 @@ impl Call {
             Layer::Slices => count(tinplateau::split_noise(n, set, bytes.list(), x.list_mut(), y.list_mut())),
         };
         Outcome { answer, guarded: vec![bytes.whole(), x.whole(), y.whole()] }
+    }
+
+    fn steps_of_sample(&self, layer: Layer) -> Outcome {
+        let [n, k, q] = [0, 1, 2].map(|number| self.numbers[number] as usize);
+        let [mut x, mut y, mut words, mut out, mut work]: [Lent<u16>; 5] = [0, 1, 2, 3, 4].map(|list| layer.lent(&self.lists[list]));
+        let mut records: Lent<u8> = layer.lent(&self.lists[5]);
+        let answer = match layer {
+            Layer::C { .. } => {
+                let [x, y, words, out, work] = [&mut x, &mut y, &mut words, &mut out, &mut work].map(|list| (list.start(), list.len()));
+                let (q, records) = (q as u16, (records.start(), records.len()));
+                // As above.
+                unsafe { tp_sample_steps(n, k, q, x.0, x.1, y.0, y.1, words.0, words.1, out.0, out.1, work.0, work.1, records.0, records.1).into() }
+            }
+            Layer::Slices => {
+                let (out, work, records) = (out.list_mut(), work.list_mut(), records.list_mut());
+                count(tinplateau::sample_steps(n, k, q as u16, x.list(), y.list(), words.list(), out, work, records))
+            }
+        };
+        let words = [x, y, words, out, work].map(Lent::whole);
+        Outcome { answer, guarded: words.into_iter().chain([records.whole()]).collect() }
     }
 
     fn text_of_file(&self, text: Text, layer: Layer) -> Outcome {

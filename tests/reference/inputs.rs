@@ -4,8 +4,10 @@ use crate::call::{Call, Function};
 use crate::draft::{self, Fault, Fault::*};
 use crate::draw::Dice;
 
+const RECORDS: Fault = Short("records");
+
 /// The functions, how many calls of each in a round, and their faults in the order of the checks.
-const KINDS: [(Function, usize, &[Fault]); 13] = [
+const KINDS: [(Function, usize, &[Fault]); 14] = [
     (Function::Mask, 12, &[N, K, Wide("value"), Length("masks"), Wide("masks"), Short("out")]),
     (Function::OpenString, 8, &[N, K, Length("shares"), Wide("shares")]),
     (Function::OpenResidue, 8, &[N, Q, Length("shares"), High("shares")]),
@@ -18,6 +20,12 @@ const KINDS: [(Function, usize, &[Fault]); 13] = [
         Function::Sample,
         40,
         &[N, K, Q, Length("x"), Length("y"), Wide("x"), Wide("y"), Short("words"), Start, High("words"), Short("out"), Short("work")],
+    ),
+    (
+        Function::SampleSteps,
+        7,
+        // The room of the records stands twice, since it is short in many ways.
+        &[N, K, Q, Length("x"), Length("y"), Wide("x"), Wide("y"), Short("words"), High("words"), Short("out"), Short("work"), RECORDS, RECORDS],
     ),
     (
         Function::SamplePolynomial,
@@ -68,18 +76,19 @@ fn coefficients(dice: &mut Dice) -> u64 {
     }
 }
 
-/// n, k and m. Only the largest polynomial has the last place of a share or word, and only the largest value that of a word. Noise has the k of
-/// set 1 or 2.
+/// n, k and m. Only the largest polynomial has the last place of a share or word, and only the largest value or sample that of a word. Noise has
+/// the k of set 1 or 2.
 fn size(dice: &mut Dice, function: Function, turn: usize, faults: &[Fault]) -> [u64; 3] {
     let (n, k) = if dice.one_in(6) { dice.pick(&[(2, 1), (8, 1), (2, 16), (8, 16)]) } else { (dice.between(2, 8), dice.between(1, 16)) };
     // The number of a call without faults: they are two of five.
     let good = (turn / 5 * 2 + turn % 5) as u64;
+    let by_size = matches!(function, Function::ConvertValue | Function::SampleSteps);
     match faults {
         [] if function == Function::SplitNoise => [2 + good % 7, 2 + good / 7 % 2, 256],
         _ if function == Function::SplitNoise => [n, dice.between(2, 3), 256],
         // One pair of n and k after the other.
-        [] if function == Function::ConvertValue => [2 + good % 7, 1 + good / 7 % 16, 1],
-        [High(_)] if function == Function::ConvertValue && dice.one_in(4) => [8, 16, 1],
+        [] if by_size => [2 + good % 7, 1 + good / 7 % 16, 1],
+        [High(_)] if by_size && dice.one_in(4) => [8, 16, 1],
         _ if function != Function::SamplePolynomial => [n, k, 1],
         [] => [2 + good % 7, 1 + good / 7 % 16, coefficients(dice)],
         [Wide(_)] if dice.one_in(2) => [8, 1, 256],

@@ -1,8 +1,10 @@
 //! Key generation of ML-KEM, from FIPS 203: the noise bytes that K-PKE.KeyGen (Algorithm 13) draws from a seed, and the key that follows from the
 //! noise.
 
+use crate::draw::Dice;
 use crate::keccak::{from_hex, sha3_256, sha3_512, shake_128, shake_256};
-use crate::noise::{COEFFICIENTS, Q};
+use crate::noise::{self, COEFFICIENTS, Q};
+use crate::{way, Comparison};
 
 /// The rank and η1 of ML-KEM-512, ML-KEM-768 and ML-KEM-1024, and a vector of NIST's for the key generation of each (ACVP): the seed d, and the
 /// SHA3-256 digest of its encapsulation key, which is a part of its decapsulation key. They are given from memory, and where they are published
@@ -15,7 +17,7 @@ const KNOWN: [(usize, u64, &str, &str); 3] = [
 
 pub struct Generation {
     rank: usize,
-    pub eta: u64,
+    eta: u64,
     seed: Vec<u8>,
     /// The digest of the encapsulation key, where that is known.
     digest: Option<Vec<u8>>,
@@ -122,4 +124,62 @@ fn product(f: &[u64], g: &[u64]) -> Vec<u64> {
 fn encoded(f: &[u64]) -> Vec<u8> {
     let three = |pair: &[u64]| [pair[0] as u8, (pair[0] >> 8 | pair[1] << 4) as u8, (pair[1] >> 4) as u8];
     f.chunks_exact(2).flat_map(three).collect()
+}
+
+/// Key generations whose noise went all the way, its polynomials, how often these did, and how often a known key followed.
+#[derive(Default)]
+pub struct Keys {
+    generations: usize,
+    polynomials: usize,
+    ways: usize,
+    known: usize,
+}
+
+impl Keys {
+    /// Prints the counts.
+    pub fn print(&self) {
+        let Keys { generations, polynomials, ways, known } = self;
+        println!("library: noise polynomials of {generations} ML-KEM key generations: {polynomials}, shared with each n and opened again: {ways}");
+        println!("  known keys that follow from the opened noise: {known}");
+    }
+}
+
+impl Comparison {
+    /// The residues of a polynomial whose noise bytes are shared, split, sampled and opened. They are those of the bytes before they were shared.
+    fn residues(&mut self, n: u64, eta: u64, bytes: &[u8]) -> Vec<u64> {
+        let mut dice = Dice::new(self.seed.wrapping_add(3), self.compared as u64);
+        let split = way::split(n, eta - 1, noise::masked(&mut dice, n, bytes));
+        let (before, outcome) = (self.differences, self.compare(&split));
+        let opened = if self.differences == before { self.go_all_the_way(&split, &outcome) } else { vec![] };
+        let residues: Vec<u64> = opened.iter().map(|coefficient| coefficient[2]).collect();
+        if residues != noise::sample_poly_cbd(eta as usize, bytes) {
+            self.differs(&split, "  the polynomial is not that of the bytes before they were shared");
+        }
+        residues
+    }
+
+    /// The noise of a key generation, shared with each n. A known key follows from what is opened.
+    pub fn make_keys(&mut self, generation: &Generation) {
+        let noise = generation.noise();
+        for n in 2..=8 {
+            let mut residues = Vec::new();
+            for bytes in &noise {
+                residues.push(self.residues(n, generation.eta, bytes));
+                if self.differences > 0 {
+                    return;
+                }
+            }
+            match generation.gives_known_key(&residues) {
+                Some(false) => {
+                    self.differences += 1;
+                    eprintln!("with n {n}, noise of η {} gives another key than the known one", generation.eta);
+                }
+                Some(true) => self.keys.known += 1,
+                None => (),
+            }
+            self.keys.ways += noise.len();
+        }
+        self.keys.generations += 1;
+        self.keys.polynomials += noise.len();
+    }
 }

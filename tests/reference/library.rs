@@ -1,7 +1,8 @@
 //! The library, called through its C interface and through the Rust bindings, compared with the second reading of the documents that this
 //! folder holds.
 //!
-//! `library SEED COUNT` compares so many calls made from the seed, makes the noise of ML-KEM keys, and counts the secrecy rule through the library.
+//! `library SEED COUNT` compares so many calls made from the seed and step records worked out by hand, makes the noise of ML-KEM keys, and counts
+//! the secrecy rule through the library.
 
 mod call;
 mod calls;
@@ -26,6 +27,10 @@ mod secrecy;
 mod show;
 mod splits;
 mod start;
+mod steps;
+mod steps_drawn;
+mod steps_held;
+mod steps_met;
 mod tally;
 mod text;
 mod value;
@@ -38,11 +43,12 @@ mod work;
 use call::{bytes, Call, Function, Outcome};
 use draw::Dice;
 use found::Layer;
-use key::Generation;
+use key::Keys;
 use lesson::{lesson, MOST_WORDS};
 use met::Met;
 use noise::Coefficient;
 use std::process::exit;
+use steps_held::Held;
 use tally::Tally;
 use text::Text;
 use value::Relations;
@@ -58,15 +64,6 @@ const CALLS_TO_A_WALK: usize = 150;
 /// After so many differences the rest is not tried.
 const MOST_DIFFERENCES: usize = 5;
 
-/// Key generations whose noise went all the way, its polynomials, how often these did, and how often a known key followed.
-#[derive(Default)]
-struct Keys {
-    generations: usize,
-    polynomials: usize,
-    ways: usize,
-    known: usize,
-}
-
 struct Comparison {
     seed: u64,
     compared: usize,
@@ -79,13 +76,15 @@ struct Comparison {
     ways: Ways,
     keys: Keys,
     values: Relations,
+    steps: Held,
 }
 
 impl Comparison {
     fn new(seed: u64) -> Comparison {
         let (through_c, through_slices) = (Met::default(), Met::default());
         let (lessons, reports, ways, keys) = (Tally::new(Text::Lesson), Tally::new(Text::Report), Ways::default(), Keys::default());
-        Comparison { seed, compared: 0, differences: 0, through_c, through_slices, lessons, reports, walks: 0, ways, keys, values: Relations::new() }
+        let (values, steps) = (Relations::new(), Held::new());
+        Comparison { seed, compared: 0, differences: 0, through_c, through_slices, lessons, reports, walks: 0, ways, keys, values, steps }
     }
 
     fn differs(&mut self, call: &Call, text: &str) {
@@ -157,53 +156,16 @@ impl Comparison {
         opened
     }
 
-    /// The residues of a polynomial whose noise bytes are shared, split, sampled and opened. They are those of the bytes before they were shared.
-    fn residues(&mut self, n: u64, eta: u64, bytes: &[u8]) -> Vec<u64> {
-        let mut dice = Dice::new(self.seed.wrapping_add(3), self.compared as u64);
-        let split = way::split(n, eta - 1, noise::masked(&mut dice, n, bytes));
-        let (before, outcome) = (self.differences, self.compare(&split));
-        let opened = if self.differences == before { self.go_all_the_way(&split, &outcome) } else { vec![] };
-        let residues: Vec<u64> = opened.iter().map(|coefficient| coefficient[2]).collect();
-        if residues != noise::sample_poly_cbd(eta as usize, bytes) {
-            self.differs(&split, "  the polynomial is not that of the bytes before they were shared");
-        }
-        residues
-    }
-
-    /// The noise of a key generation, shared with each n. A known key follows from what is opened.
-    fn make_keys(&mut self, generation: &Generation) {
-        let noise = generation.noise();
-        for n in 2..=8 {
-            let mut residues = Vec::new();
-            for bytes in &noise {
-                residues.push(self.residues(n, generation.eta, bytes));
-                if self.differences > 0 {
-                    return;
-                }
-            }
-            match generation.gives_known_key(&residues) {
-                Some(false) => {
-                    self.differences += 1;
-                    eprintln!("with n {n}, noise of η {} gives another key than the known one", generation.eta);
-                }
-                Some(true) => self.keys.known += 1,
-                None => (),
-            }
-            self.keys.ways += noise.len();
-        }
-        self.keys.generations += 1;
-        self.keys.polynomials += noise.len();
-    }
-
     /// One made call more, and what must hold of an accepted one.
     fn take(&mut self, call: &Call) {
         let (before, outcome) = (self.differences, self.compare(call));
         if self.differences == before {
             self.convert_as_bit(call, &outcome);
+            self.sample_as_steps(call, &outcome);
         }
         match call.function {
             _ if outcome.answer.code != 0 || self.differences > before => (),
-            Function::Sample | Function::SamplePolynomial => drop(self.open_coefficients(call, &outcome)),
+            Function::Sample | Function::SampleSteps | Function::SamplePolynomial => drop(self.open_coefficients(call, &outcome)),
             Function::SplitNoise if self.ways.is_due(call) => drop(self.go_all_the_way(call, &outcome)),
             Function::ConvertValue => self.open_value(call, &outcome),
             Function::Mask => self.open_mask(call, &outcome),
@@ -235,19 +197,11 @@ impl Comparison {
     fn print(&self, made: usize) -> usize {
         println!("library: {made} calls made, {} compared with those that follow from them", self.compared);
         println!("  {} walks through one list of words, by calls that hand the position on", self.walks);
-        let relations = self.ways.print() + self.values.print();
+        let relations = self.ways.print() + self.values.print() + self.steps.print();
         let calls = self.through_c.print("the C functions") + self.through_slices.print("the Rust bindings");
         let gaps = relations + calls + self.lessons.print() + self.reports.print();
         self.keys.print();
         gaps
-    }
-}
-
-impl Keys {
-    fn print(&self) {
-        let Keys { generations, polynomials, ways, known } = self;
-        println!("library: noise polynomials of {generations} ML-KEM key generations: {polynomials}, shared with each n and opened again: {ways}");
-        println!("  known keys that follow from the opened noise: {known}");
     }
 }
 
@@ -266,6 +220,8 @@ fn agrees(seed: u64, count: usize) -> bool {
     report::check_pairs();
     keccak::check();
     let mut comparison = Comparison::new(seed);
+    comparison.compare_by_hand();
+    comparison.compare_largest();
     for number in 0..count {
         comparison.take(&inputs::made(seed, number));
         if number % CALLS_TO_A_WALK == 0 {

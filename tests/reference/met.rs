@@ -2,7 +2,7 @@
 
 use crate::call::{Answer, Call, Form, Function, FUNCTIONS};
 use crate::kinds::{print_gaps, Kinds};
-use crate::{polynomial, splits, start, value_met, work};
+use crate::{polynomial, splits, start, steps_met, value_met, work};
 use std::collections::{BTreeMap, BTreeSet};
 
 /// A kind of call that is met less often says too little.
@@ -25,6 +25,7 @@ fn kinds_to_meet(function: Function) -> Vec<String> {
         Function::ConvertBit => start::to_meet(function),
         Function::ConvertValue => value_met::to_meet(),
         Function::Sample => [start::to_meet(function), work::to_meet(function)].concat(),
+        Function::SampleSteps => [steps_met::to_meet(), work::to_meet(function)].concat(),
         Function::SamplePolynomial => [polynomial::to_meet(), work::to_meet(function)].concat(),
         Function::SplitNoise => splits::to_meet(),
         _ => vec![],
@@ -37,6 +38,7 @@ fn kinds_met(call: &Call, answer: Answer) -> Vec<String> {
         Function::ConvertBit => start::met(call, answer),
         Function::ConvertValue => value_met::met(call, answer),
         Function::Sample => [start::met(call, answer), work::met(call, answer)].concat(),
+        Function::SampleSteps => [steps_met::met(call, answer), work::met(call, answer)].concat(),
         Function::SamplePolynomial => [polynomial::met(call, answer), work::met(call, answer)].concat(),
         Function::SplitNoise => splits::met(call, answer),
         _ => vec![],

@@ -13,7 +13,7 @@ pub fn fitting_length(n: u64, k: u64) -> u64 {
 
 /// One of the others, or the number with a high bit set, which is right again where that bit is lost.
 pub fn unfit(dice: &mut Dice, number: u64, others: &[u64]) -> u64 {
-    if dice.one_in(2) {
+    if dice.one_in(3) {
         return dice.pick(others);
     }
     1 << dice.pick(&[8, 16, 32, 58, 62, 63]) | number

@@ -58,7 +58,7 @@ impl Relations {
     }
 }
 
-fn ending(code: u64) -> String {
+pub fn ending(code: u64) -> String {
     match code {
         0 => "accepted".to_string(),
         number => format!("refused with {number}"),

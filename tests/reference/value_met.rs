@@ -60,14 +60,14 @@ const BITS: [&str; 9] = [
 
 const SMALL: [&str; 3] = ["q 0", "q 1", "q 2"];
 
-const LENGTHS: [&str; 5] =
+pub const LENGTHS: [&str; 5] =
     ["one share too few", "one share too many", "no shares", "ten shares too many or more", "shares whose number's low 16 bits are n"];
 
-const WIDE: [&str; 6] = ["the first share", "a middle share", "the last share", "bit k alone", "bit 15 alone", "a share with a later one"];
+pub const WIDE: [&str; 6] = ["the first share", "a middle share", "the last share", "bit k alone", "bit 15 alone", "a share with a later one"];
 
-const FEW: [&str; 4] = ["one word too few", "no words", "half the words or fewer", "the words of all bits but one, or more"];
+pub const FEW: [&str; 4] = ["one word too few", "no words", "half the words or fewer", "the words of all bits but one, or more"];
 
-const HIGH: [&str; 9] = [
+pub const HIGH: [&str; 9] = [
     "the first word",
     "the last word",
     "the last word of the first bit of several",
@@ -79,7 +79,7 @@ const HIGH: [&str; 9] = [
     "the last word with one behind it",
 ];
 
-const ROOMS: [&str; 2] = ["one place too few", "no places"];
+pub const ROOMS: [&str; 2] = ["one place too few", "no places"];
 
 /// The numbers in the order of the checks.
 const ORDER: [u64; 8] = [1, 2, 3, 4, 6, 8, 9, 10];
@@ -88,15 +88,15 @@ fn of_modulus(q: u64) -> String {
     format!("q {q}")
 }
 
-fn accepted(kind: &str) -> String {
+pub fn accepted(kind: &str) -> String {
     format!("accepted with {kind}")
 }
 
-fn refused(number: u64, kind: &str) -> String {
+pub fn refused(number: u64, kind: &str) -> String {
     format!("refused with {number} for {kind}")
 }
 
-fn before(number: u64, other: u64) -> String {
+pub fn before(number: u64, other: u64) -> String {
     format!("refused with {number} where {other} is due too")
 }
 
@@ -116,13 +116,13 @@ pub fn to_meet() -> Vec<String> {
 
 /// A call's numbers and lists, of the output its length.
 #[derive(Clone, Copy)]
-struct Value<'a> {
-    n: u64,
-    k: u64,
-    q: u64,
-    shares: &'a [u64],
-    words: &'a [u64],
-    out: u64,
+pub struct Value<'a> {
+    pub n: u64,
+    pub k: u64,
+    pub q: u64,
+    pub shares: &'a [u64],
+    pub words: &'a [u64],
+    pub out: u64,
 }
 
 /// What one call meets of that.
@@ -148,17 +148,17 @@ pub fn met(call: &Call, answer: Answer) -> Vec<String> {
 
 impl Value<'_> {
     /// The words that the call takes.
-    fn needed(&self) -> u128 {
+    pub fn needed(&self) -> u128 {
         let [n, k] = [self.n, self.k].map(u128::from);
         k.saturating_mul(n).saturating_mul(n.saturating_sub(1))
     }
 
-    fn is_high(&self, place: usize) -> bool {
+    pub fn is_high(&self, place: usize) -> bool {
         self.words.get(place).map_or(false, |word| *word >= self.q)
     }
 
     /// Whether a number would come if none came before it.
-    fn is_due(&self, number: u64) -> bool {
+    pub fn is_due(&self, number: u64) -> bool {
         let (shares, words) = (self.shares.len() as u64, self.words.len() as u128);
         match number {
             1 => !(2..=8).contains(&self.n),
@@ -231,24 +231,24 @@ impl Value<'_> {
         [k == 0, k == 17, k == u64::MAX - 1, k == u64::MAX, cut[0], cut[1], cut[2], cut[3], wraps]
     }
 
-    fn lengths(&self) -> [bool; 5] {
+    pub fn lengths(&self) -> [bool; 5] {
         let (n, len) = (self.n, self.shares.len() as u64);
         [len + 1 == n, len == n + 1, len == 0, len >= n + 10, len > n && len % 65_536 == n]
     }
 
-    fn wide(&self, place: usize) -> [bool; 6] {
+    pub fn wide(&self, place: usize) -> [bool; 6] {
         let (k, last) = (self.k, self.shares.len() - 1);
         let over = self.shares[place] >> k << k;
         let later = self.shares[place + 1..].iter().any(|share| share >> k != 0);
         [place == 0, 0 < place && place < last, place == last, over == 1 << k, over == 1 << 15, later]
     }
 
-    fn few(&self) -> [bool; 4] {
+    pub fn few(&self) -> [bool; 4] {
         let (needed, len) = (self.needed() as u64, self.words.len() as u64);
         [len + 1 == needed, len == 0, 2 * len <= needed, self.k > 1 && len + bit_words(self.n) >= needed]
     }
 
-    fn high(&self, place: usize) -> [bool; 9] {
+    pub fn high(&self, place: usize) -> [bool; 9] {
         let (needed, row, word) = (self.needed() as usize, bit_words(self.n) as usize, self.words[place]);
         let later = (place + 1..needed).any(|other| self.is_high(other));
         let (last, behind) = (place + 1 == needed, self.is_high(needed));

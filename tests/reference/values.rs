@@ -29,7 +29,7 @@ pub fn opened(shares: &[u64]) -> u64 {
 }
 
 /// A length that suffices. Seldom its low 16 bits do not.
-fn length(dice: &mut Dice, needed: u64) -> u64 {
+pub fn length(dice: &mut Dice, needed: u64) -> u64 {
     if dice.one_in(100) {
         return 65_536 + dice.below(needed.max(1));
     }

@@ -21,7 +21,7 @@ pub fn is_least(call: &Call) -> bool {
 const ACCEPTED: [&str; 7] = ["n", "n + 1", "n + 2 to 2kn - 2", "2kn - 1", "2kn", "more than 2kn", "fewer than 2kn"];
 const TOO_FEW: [&str; 3] = ["no", "1 to n - 2", "n - 1"];
 
-/// What a refusal for another reason is to meet.
+/// What a refusal for another reason is to meet, 26 only the second: it is asked after 11.
 const OTHERS: [&str; 2] = ["fewer than n", "n to 2kn - 1"];
 
 fn accepted(places: &str) -> String {
@@ -44,7 +44,7 @@ fn for_several(kind: String) -> String {
 /// All that the calls of a function with a work area are to meet.
 pub fn to_meet(function: Function) -> Vec<String> {
     let numbers = function.form().refusals.iter().map(|refusal| refusal.0).filter(|number| *number != 11);
-    let others = numbers.flat_map(|number| OTHERS.map(|places| refused(number, places)));
+    let others = numbers.flat_map(|number| OTHERS[usize::from(number == 26)..].iter().map(move |places| refused(number, places)));
     let mut kinds: Vec<String> = ACCEPTED.map(accepted).into_iter().chain(TOO_FEW.map(|places| refused(11, places))).chain(others).collect();
     if function == Function::SamplePolynomial {
         kinds.extend(by_several().map(for_several));

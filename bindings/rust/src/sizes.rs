@@ -50,7 +50,7 @@ pub const fn sample_work(n: usize) -> usize {
 
 /// The step records that [`sample_steps`](crate::sample_steps) writes: 2k(5n(n + 1)/2 - 3), and none for n = 0.
 pub const fn step_records(n: usize, k: usize) -> usize {
-    let bit = n.saturating_mul(n.saturating_add(1)).saturating_mul(5) / 2;
+    let bit = (n.saturating_mul(n.saturating_add(1)) / 2).saturating_mul(5);
     k.saturating_mul(2).saturating_mul(bit.saturating_sub(3))
 }
 

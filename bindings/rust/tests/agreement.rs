@@ -26,6 +26,11 @@ fn sample_of(n: usize, k: usize, q: u16, words: usize, start: usize, out: usize,
     sample(n, k, q, &shares, &shares, &words_from(start, words), start, &mut vec![0; out], &mut vec![0; work])
 }
 
+/// A sample of zeros with step records, and lists of these lengths.
+fn steps_of(n: usize, k: usize, q: u16, words: usize, out: usize, work: usize, records: usize) -> Result<usize, Refusal> {
+    sample_steps(n, k, q, &vec![0; n], &vec![0; n], &vec![0; words], &mut vec![0; out], &mut vec![0; work], &mut vec![0; records])
+}
+
 /// A polynomial of zeros with lists of these lengths.
 fn polynomial_of([n, k, m]: [usize; 3], shares: usize, words: usize, out: usize, work: usize) -> Result<usize, Refusal> {
     let zeros = vec![0; shares];
@@ -80,6 +85,23 @@ fn sample_sizes_are_exact() {
             }
         }
     }
+}
+
+#[test]
+fn step_sizes_are_exact() {
+    for n in MIN_SHARES..=MAX_SHARES {
+        for k in MIN_BITS..=MAX_BITS {
+            let (words, work, bytes) = (sample_words(n, k), sample_work(n), step_bytes(n, k));
+            for q in [2 * k as u16 + 1, Q, u16::MAX] {
+                assert_eq!((steps_of(n, k, q, words, n, work, bytes), bytes), (Ok(words), 8 * step_records(n, k)));
+                assert_eq!(steps_of(n, k, q, words, n, work, bytes - 1), refused(Reason::RecordRoom, 0));
+                assert_eq!(steps_of(n, k, q, words - 1, n, work, bytes), refused(Reason::WordCount, 0));
+                assert_eq!(steps_of(n, k, q, words, n - 1, work, bytes), refused(Reason::OutputRoom, 0));
+                assert_eq!(steps_of(n, k, q, words, n, work - 1, bytes - 1), refused(Reason::WorkRoom, 0));
+            }
+        }
+    }
+    assert_eq!([step_records(2, 1), step_records(3, 1), step_records(MAX_SHARES, MAX_BITS)], [24, 54, 5_664]);
 }
 
 #[test]
@@ -162,8 +184,9 @@ fn value_sizes_are_exact() {
 fn sizes_of_unfit_numbers_do_not_overflow() {
     assert_eq!([value_words(0, 0), value_words(0, 1), value_words(2, 0)], [0; 3]);
     assert_eq!([value_words(usize::MAX, 1), value_words(2, usize::MAX), value_words(2, 1 << 63)], [usize::MAX; 3]);
-    assert_eq!([bit_words(0), sample_words(0, 0), sample_work(0)], [0; 3]);
+    assert_eq!([bit_words(0), sample_words(0, 0), sample_work(0), step_records(0, 1), step_records(2, 0), step_bytes(0, 1)], [0; 6]);
     assert_eq!([bit_words(usize::MAX), sample_words(usize::MAX, 1), sample_work(usize::MAX)], [usize::MAX; 3]);
+    assert_eq!([step_records(usize::MAX, 1), step_records(1 << 32, 1), step_records(2, usize::MAX), step_bytes(2, 1 << 57)], [usize::MAX; 4]);
     assert_eq!([polynomial_shares(0, 0), polynomial_words(0, 0, 0)], [0; 2]);
     assert_eq!([polynomial_shares(2, usize::MAX), polynomial_words(2, 1, usize::MAX)], [usize::MAX; 2]);
     assert_eq!([noise_bytes(0, 0), noise_bytes(2, 0), noise_bytes(0, 2), noise_shares(0)], [0; 4]);
@@ -235,11 +258,12 @@ fn every_reason_of_a_call_is_met() {
         (polynomial_of([2, 1, 0], 2, 4, 2, 2).map(drop), 23, Reason::CoefficientCount, 0),
         (noise_of(2, 3, 256, 512, 512).map(drop), 24, Reason::NoiseSet, 0),
         (noise_of(2, 1, 255, 512, 512).map(drop), 25, Reason::NoiseLength, 0),
+        (steps_of(2, 1, 3, 4, 2, 2, 191).map(drop), 26, Reason::RecordRoom, 0),
     ]);
     for (found, number, reason, position) in &met {
         assert_eq!((*found, *number), (refused(*reason, *position), reason.number()));
     }
-    assert_eq!(met.len(), 21);
+    assert_eq!(met.len(), 22);
 }
 
 #[test]
@@ -263,10 +287,10 @@ fn every_reason_of_a_file_is_met() {
 
 #[test]
 fn numbers_and_reasons_are_one_to_one() {
-    for number in 1..=25 {
+    for number in 1..=26 {
         assert_eq!(Reason::from_number(number).map(Reason::number), Some(number));
     }
-    assert_eq!([0, 26, u32::MAX].map(Reason::from_number), [None; 3]);
+    assert_eq!([0, 27, u32::MAX].map(Reason::from_number), [None; 3]);
 }
 
 #[test]
