@@ -24,10 +24,6 @@ lessTwice-cswap q a r zero p h = lessTwice-zero q p (sub q a r) ∙ reduce-add q
 lessTwice-cswap q a r (suc zero) p h = lessTwice-one q p (sub q a r) ∙ neg-sub q p a r
 lessTwice-cswap q a r (suc (suc b)) p h = absurd (omega arith)
 
-pub lessTwice-lt : (q v b : ℕ) → 0 < q → lessTwice q b v < q
-unfolding lessTwice
-lessTwice-lt q v b p = add-lt q p v (neg q (2 * v * b))
-
 -- ---- the loop of step 2
 
 module _ (q j bit : ℕ) (A r : ℕ → ℕ) where

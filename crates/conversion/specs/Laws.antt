@@ -61,6 +61,10 @@ module _ (q : ℕ) where
   unfolding extend
   extend-from j A r i h = rw (le-ltb i j h)
 
+  pub lessTwice-lt : 0 < q → (b v : ℕ) → lessTwice q b v < q
+  unfolding lessTwice
+  lessTwice-lt pos b v = add-lt q pos v (neg q (2 * v * b))
+
   pub extend-cong : (j : ℕ) (A D r s : ℕ → ℕ) → Same j A D → Same j r s → extend q j A r ≡ extend q j D s
   extend-cong j A D r s h l = fun-ext (λ i. go i (decLt i j))
     where

@@ -18,7 +18,7 @@ ghost use Rattle.conversion.specs.Secrecy.{BitSecrecy};
 ghost use Rattle.conversion.specs.Arrays.{Holds, Drawn, Modulus};
 
 // B - 2Bb modulo q for B = a - r and a bit b: a - r, or r - a where b is 1.
-fn less_twice(a: Wide, r: Wide, b: Wide, q: Word) -> Word
+pub fn less_twice(a: Wide, r: Wide, b: Wide, q: Word) -> Word
     requires { ⌜ (a < q) × (r < q) × (b < 2) × (q < 2 ^ 31) ⌝ }
     ensures { λ c. ⌜ c ≡ lessTwice q b (sub q a r) ⌝ }
 {
@@ -26,14 +26,7 @@ fn less_twice(a: Wide, r: Wide, b: Wide, q: Word) -> Word
 }
 
 // Step 2: the list for j + 1 shares of the bit, from the list for j, the j words at `start` and the next share of the bit.
-pub fn xor_share(
-    a: [Word; 8],
-    j: usize,
-    bit: Word,
-    q: Word,
-    words: &[Word],
-    start: usize,
-) -> [Word; 8]
+fn xor_share(a: [Word; 8], j: usize, bit: Word, q: Word, words: &[Word], start: usize) -> [Word; 8]
     requires { ⌜ (j < 8) × (bit < 2) × Modulus q × Below q j (at a) × Drawn q start j (now words) ⌝ }
     ensures { λ r. ⌜ Holds (j + 1) (xorShare q j (at a) (after start (at (now (words .entry)))) bit) r ⌝ }
 {

@@ -4,9 +4,9 @@ use mathlib.Core.List.{List, [], _∷_, _++_}
 use Prim.Native.Nat.{ℕ, zero, suc, _+_, _≤_, _<_}
 use native.Mathlib.Numerals.{add-one}
 use native.Mathlib.Omega.{arith}
-use Rattle.residue.specs.Residue.{mul}
+use Rattle.residue.specs.Residue.{add, mul}
 use Rattle.buffers.specs.Positions.{at, after, Below}
-use Rattle.conversion.specs.Conversion.{pairs, extend, xorShare, convert}
+use Rattle.conversion.specs.Conversion.{pairs, extend, lessTwice, xorBit, xorShare, convert}
 use Rattle.conversion.specs.Laws.{extend-lt, extend-cong}
 use Rattle.conversion.specs.Arrays.{Holds}
 use Rattle.records.specs.Records.{Step, across, step}
@@ -16,6 +16,15 @@ use Rattle.steps.specs.Steps.{listSteps, addedSteps, roundSteps}
 module _ (q j : ℕ) (A r : ℕ → ℕ) (B : List ℕ) (E : Holds (j + 1) (extend q j A r) B) where
   pub extended-lt : 0 < q → Below q (j + 1) (at B)
   extended-lt pos i l = rw (E .same i l) (extend-lt q pos j A r i)
+
+  -- C of the array is that of B
+  pub bit-added : (b : ℕ) (C : List ℕ) → Holds (j + 1) (xorBit q b (at B)) C → Holds (j + 1) (xorShare q j A r b) C
+  unfolding xorShare xorBit
+  bit-added b C X = record { eight = X .eight; same = λ i l. X .same i l ∙ same i l }
+    where
+      same : (i : ℕ) → i < j + 1 → xorBit q b (at B) i ≡ xorBit q b (extend q j A r) i
+      same zero l = ap (λ (v : ℕ). add q (lessTwice q b v) b) (E .same zero l)
+      same (suc i) l = ap (lessTwice q b) (E .same (suc i) l)
 
   -- three arrays with B, its products and C
   pub lists-added : (bit b : ℕ) (P C : List ℕ) → Holds (j + 1) (λ i. mul q (at B i) b) P → Holds (j + 1) (xorShare q j A r b) C → listSteps bit j b (at B) (at P) (at C) ≡ addedSteps q bit j b (extend q j A r)

@@ -7,7 +7,7 @@ ghost use Prim.Native.Nat.{_+_, _≤_, _<_};
 ghost use lib.ListN.{length};
 ghost use Rattle.residue.specs.Residue.{mul};
 ghost use Rattle.buffers.specs.Positions.{at, after, Below};
-ghost use Rattle.conversion.specs.Conversion.{pairs, extend, xorShare, convert};
+ghost use Rattle.conversion.specs.Conversion.{pairs, extend, xorBit, xorShare, convert};
 ghost use Rattle.conversion.specs.Arrays.{Holds, Drawn, Modulus};
 ghost use Rattle.records.specs.Records.{across, Fits, Recorded};
 ghost use Rattle.steps.specs.Steps.{listSteps, addedSteps, roundSteps};
@@ -42,6 +42,20 @@ fn multiply(list: [Word; 8], n: usize, bit: Word, q: Word) -> [Word; 8]
     products
 }
 
+// C, from the first n of B: B - 2Bb, and b is added to the first.
+fn xor_bit(list: [Word; 8], n: usize, bit: Word, q: Word) -> [Word; 8]
+    requires { ⌜ (1 ≤ n) × (n ≤ 8) × (bit < 2) × Modulus q × Below q n (at list) ⌝ }
+    ensures { λ r. ⌜ Holds n (xorBit q bit (at list)) r ⌝ }
+{
+    let b = residue::widen(bit);
+    let mut c: [Word; 8] = [0; 8];
+    for i in 0..n {
+        c[i] = conversion::less_twice(residue::widen(list[i]), 0, b, q);
+    }
+    c[0] = residue::add_words(c[0], bit, q);
+    c
+}
+
 // The records of round j + 1, with the share b of the bit and three lists. Answers the position behind them.
 fn write_round(
     records: &mut [u8],
@@ -71,7 +85,6 @@ pub struct Converted {
 }
 
 // Round j + 1, from the list for j shares, the j words at `start` and the next share b of the bit.
-// `&words[..]`: docs/DECISIONS.md, 'A slice is handed on by its parts'.
 fn add_round(
     a: [Word; 8],
     j: usize,
@@ -86,9 +99,9 @@ fn add_round(
     requires { ⌜ (j < 8) × (b < 2) × Modulus q × Below q j (at a) × Drawn q start j (now words) × Fits (now records) position (addedSteps q bit j b (extend q j (at a) (after start (at (now words))))) ⌝ }
     ensures { λ r. ⌜ Holds (j + 1) (xorShare q j (at a) (after start (at (now (words .entry)))) b) (r .list) × (r .next ≡ start + j) × Recorded (now (records .entry)) position (addedSteps q bit j b (extend q j (at a) (after start (at (now (words .entry)))))) (now (records .exit)) (r .position) ⌝ }
 {
-    let extended = extend(a, j, q, &words[..], start);
+    let extended = extend(a, j, q, words, start);
     let products = multiply(extended, j + 1, b, q);
-    let list = conversion::xor_share(a, j, b, q, words, start);
+    let list = xor_bit(extended, j + 1, b, q);
     let end = write_round(records, position, bit, j, b, &extended, &products, &list);
     Converted {
         list: list,

@@ -4,7 +4,8 @@ use native.Mathlib.Omega.{arith}
 use borrow.Author.Needs.{needs}
 use Rattle.residue.specs.Residue.{sub}
 use Rattle.conversion.specs.Conversion.{lessTwice}
-use Rattle.conversion.proofs.Steps.{lessTwice-cswap, lessTwice-lt}
+use Rattle.conversion.specs.Laws.{lessTwice-lt}
+use Rattle.conversion.proofs.Steps.{lessTwice-cswap}
 use Rattle.conversion.proofs.less_twice.Statement.{statement}
 use Rattle.conversion.proofs.less_twice.Tie as tie
 
@@ -23,7 +24,7 @@ cswap-sub-requires c κs = search needs
 narrow-requires : tie.Need-narrow-requires
 narrow-requires c κs =
     let s = c .before .before in
-    rw (difference c) (lessTwice-lt (s .args .q) _ (s .args .b) (omega arith))
+    rw (difference c) (lessTwice-lt (s .args .q) (omega arith) (s .args .b) _)
 
 returns : tie.Need-returns
 returns c = c .narrow .ensures ∙ difference (c .before)

@@ -7,7 +7,8 @@ use native.Mathlib.Omega.{arith}
 use lib.ListN.{set}
 use Rattle.residue.specs.Laws.{add-cong, add-lt}
 use Rattle.buffers.specs.Positions.{at, after}
-use Rattle.conversion.proofs.Steps.{lessTwice-lt, Turned, turned-none, turned-below, turned-at, turned-past, turned-lt, turned-all}
+use Rattle.conversion.specs.Laws.{lessTwice-lt}
+use Rattle.conversion.proofs.Steps.{Turned, turned-none, turned-below, turned-at, turned-past, turned-lt, turned-all}
 use borrow.Author.Needs.{needs}
 use Rattle.conversion.proofs.xor_share.Statement.{statement}
 use Rattle.conversion.proofs.xor_share.Tie as tie
@@ -134,7 +135,7 @@ add-requires-2 c κs =
     let s = c .before .before .before .before .before .before in
     let m : c .before .before .before .before .widen .result ≡ s .args .q = c .before .before .before .before .widen .ensures in
     let b : c .before .before .before .widen2 .result ≡ s .args .bit = c .before .before .before .widen2 .ensures in
-    let v : c .widen5 .result < s .args .q = rw (c .widen5 .ensures, c .before .before .loop .inv .1 .done 0 (omega arith) (omega arith)) (lessTwice-lt _ _ _ (omega (arith, s .pre .2 .large))) in
+    let v : c .widen5 .result < s .args .q = rw (c .widen5 .ensures, c .before .before .loop .inv .1 .done 0 (omega arith) (omega arith)) (lessTwice-lt _ (omega (arith, s .pre .2 .large)) _ _) in
     (omega arith, omega (arith, s .pre .2 .large), omega (arith, s .pre .2 .small))
 
 narrow-requires : tie.Need-narrow-requires Inv-loop μ-loop
