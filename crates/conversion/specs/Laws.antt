@@ -42,6 +42,11 @@ bitWords-some n h =
     let l : 1 ≤ n - 1 = omega arith in
     omega (arith, mul-le-mul h l)
 
+pub pairs-up : (j n : ℕ) → j ≤ n → pairs j ≤ pairs n
+pairs-up j n h =
+    let l : j - 1 ≤ n - 1 = omega arith in
+    omega (arith, pairs-twice j, pairs-twice n, mul-le-mul h l)
+
 pub pairs-most : (n : ℕ) → n ≤ 8 → pairs n ≤ 28
 pairs-most n h =
     let l : n - 1 ≤ 7 = omega arith in

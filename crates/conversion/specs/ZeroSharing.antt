@@ -43,20 +43,21 @@ module _ (q : ℕ) where
     unfolding transfer
     transfer-keeps s h l = rw (ne-eqb s i h, ne-eqb s m l)
 
-  -- shares that are the same stay so
-  pub transfer-same : (n i m r : ℕ) (A D : ℕ → ℕ) → Same n A D → Same n (transfer q i m r A) (transfer q i m r D)
+  -- shares that are the same stay so, with words that are the same
+  pub transfer-same : (n i m r s : ℕ) (A D : ℕ → ℕ) → r ≡ s → Same n A D → Same n (transfer q i m r A) (transfer q i m s D)
   unfolding transfer
-  transfer-same n i m r A D h s l = rw (h s l)
+  transfer-same n i m r s A D e h j l = rw (e, h j l)
 
-  pub refreshShare-same : (n i m c : ℕ) (w A D : ℕ → ℕ) → Same n A D → Same n (refreshShare q i m c w A) (refreshShare q i m c w D)
+  pub refreshShare-same : (n i m c : ℕ) (w v A D : ℕ → ℕ) → Same c w v → Same n A D → Same n (refreshShare q i m c w A) (refreshShare q i m c v D)
   unfolding refreshShare
-  refreshShare-same n i m zero w A D h = h
-  refreshShare-same n i m (suc c) w A D h = refreshShare-same n i (suc m) c (λ j. w (suc j)) _ _ (transfer-same n i m (w 0) A D h)
+  refreshShare-same n i m zero w v A D e h = h
+  refreshShare-same n i m (suc c) w v A D e h =
+      refreshShare-same n i (suc m) c (λ j. w (suc j)) (λ j. v (suc j)) _ _ (λ j l. e (suc j) (omega arith)) (transfer-same n i m (w 0) (v 0) A D (e 0 (omega arith)) h)
 
   refreshFrom-same : (n i c : ℕ) (w A D : ℕ → ℕ) → Same n A D → Same n (refreshFrom q i c w A) (refreshFrom q i c w D)
   unfolding refreshFrom
   refreshFrom-same n i zero w A D h = h
-  refreshFrom-same n i (suc c) w A D h = refreshFrom-same n (suc i) c (after c w) _ _ (refreshShare-same n i (suc i) c w A D h)
+  refreshFrom-same n i (suc c) w A D h = refreshFrom-same n (suc i) c (after c w) _ _ (refreshShare-same n i (suc i) c w w A D (λ j l. refl) h)
 
   pub refresh-same : (n : ℕ) (w A D : ℕ → ℕ) → Same n A D → Same n (refresh q n w A) (refresh q n w D)
   refresh-same n w A D h = refreshFrom-same n 0 n w A D h

@@ -1,1 +1,2 @@
 pub mod SampleSteps
+pub mod Calls

@@ -1,12 +1,20 @@
 -- How many records a bit has, and a sample: the walk, where nothing is to hold of a record.
-use mathlib.Core.Path.{_≡_}
-use mathlib.Core.List.{List}
-use Prim.Native.Nat.{ℕ, _*_, _<_}
-use lib.ListN.{length, getD, take, drop}
-use Rattle.buffers.specs.Positions.{at}
-use Rattle.records.specs.Records.{stepBytes, recordBytes, bytes}
-use Rattle.records.specs.Laws.{bytes-at}
-use Rattle.steps.specs.Steps.{bitSteps, stepRecords, recordCount}
+-- And the last records of a sample.
+use mathlib.Core.Path.{_≡_, refl, sym, ap, _∙_}
+use mathlib.Core.List.{List, [], _∷_, _++_, append-assoc}
+use Prim.Native.Nat.{ℕ, zero, suc, _+_, _-_, _*_, _≤_, _<_}
+use native.Mathlib.Nat.{not-suc-le-zero, le-of-suc-le-suc}
+use native.Mathlib.Numerals.{add-one}
+use native.Mathlib.Omega.{arith}
+use lib.ListN.{length, getD, take, drop, length-append}
+use lib.Seq.{getD-append-add}
+use Rattle.residue.specs.Residue.{sub}
+use Rattle.buffers.specs.Positions.{at, after}
+use Rattle.conversion.specs.Conversion.{bitsAt, bitWords}
+use Rattle.totals.specs.Sample.{stringShare, sampleShare}
+use Rattle.records.specs.Records.{Step, step, stepBytes, recordBytes, bytes, across, perShare}
+use Rattle.records.specs.Laws.{across-last, length-perShare, bytes-at}
+use Rattle.steps.specs.Steps.{convertSteps, bitSteps, stringSteps, sampleSteps, stepRecords, recordCount}
 use Rattle.steps.specs.Walk.{none, bitCount, BitRecords, bit-each, sample-each}
 
 module _ (q n : ℕ) where
@@ -34,3 +42,32 @@ module _ (n k q : ℕ) (x y words : List ℕ) where
   -- record p stands in the bytes from 8 × p on
   pub records-at : (p : ℕ) → p < recordCount n k → take recordBytes (drop (recordBytes * p) (bytes (stepRecords n k q x y words))) ≡ stepBytes (getD (stepRecords n k q x y words) p none)
   records-at p l = bytes-at (stepRecords n k q x y words) none p (rw record-count l)
+
+-- ---- the last records of a sample
+
+across-at : (n : ℕ) (r : ℕ → Step) (i : ℕ) → i < n → getD (across n (λ i. r i ∷ [])) i none ≡ r i
+unfolding across
+across-at zero r i h = absurd (not-suc-le-zero h)
+across-at (suc n) r zero h = refl
+across-at (suc n) r (suc i) h = across-at n (λ i. r (suc i)) i (le-of-suc-le-suc h)
+
+-- of a list that ends with output shares
+shares-behind : (n bit : ℕ) (f : ℕ → ℕ) (l m : List Step) → l ≡ m ++ perShare n bit 0 5 f → (i : ℕ) → i < n → getD l (length l - n + i) none ≡ step bit 0 (suc i) 5 (f i)
+shares-behind n bit f l m e i h =
+    let d : length (m ++ perShare n bit 0 5 f) - n + i ≡ length m + i = omega (arith, length-append m (perShare n bit 0 5 f), length-perShare bit 0 5 f n) in
+    rw (e, d) (getD-append-add m (perShare n bit 0 5 f) i none ∙ across-at n (λ j. step bit 0 (suc j) 5 (f j)) i h)
+
+-- the last n records show the output shares
+pub records-last : (n k q : ℕ) (x y words : List ℕ) → 1 ≤ k → (i : ℕ) → i < n → getD (stepRecords n k q x y words) (recordCount n k - n + i) none ≡ step (2 * k - 1) 0 (i + 1) 5 (sampleShare q n k (at x) (at y) (at words) i)
+unfolding sampleSteps stringSteps sampleShare
+records-last n zero q x y words one i l = absurd (omega arith)
+records-last n (suc m) q x y words one i l =
+    let share = sampleShare q n (suc m) (at x) (at y) (at words) in
+    let v = after (suc m * bitWords n) (at words) in
+    let s = stringSteps q n (suc m) 0 (at x) (at words) (λ t. stringShare q n t (at x) (at words)) in
+    let g : ℕ → List Step = λ t. bitSteps q (suc m + t) n (bitsAt (at y) t) (after (t * bitWords n) v) (λ i. sub q (stringShare q n (suc m) (at x) (at words) i) (stringShare q n (suc t) (at y) v i)) in
+    let c = convertSteps q (suc m + m) n (bitsAt (at y) m) (after (m * bitWords n) v) in
+    let b : 2 * suc m - 1 ≡ suc m + m = omega arith in
+    rw (b, add-one i, ← record-count n (suc m) q x y words)
+    (shares-behind n (suc m + m) share (stepRecords n (suc m) q x y words) (s ++ (across m g ++ c))
+    (ap (λ (r : List Step). s ++ r) (across-last m g ∙ sym (append-assoc (across m g) c _)) ∙ sym (append-assoc s (across m g ++ c) _)) i l)

@@ -28,7 +28,7 @@ steps : (c : tie.After-convert-steps) → let a = start c .args in let w = after
     refreshSteps (a .q) (a .bit) 1 0 (a .n) (after (c .convert-steps .result .next) (at (a .words .now))) (at (c .convert-steps .result .list)) ≡ refreshSteps (a .q) (a .bit) 1 0 (a .n) (after (pairs (a .n)) w) (convert (a .q) (a .n) (at (a .bits .now)) w)
 steps c =
     let a = start c .args in
-    ap (λ (v : ℕ → ℕ). refreshSteps (a .q) (a .bit) 1 0 (a .n) v (at (c .convert-steps .result .list))) (behind c) ∙ refresh-same (a .q) (a .bit) (a .n) 1 0 (a .n) _ _ _ (omega arith) (c .convert-steps .ensures .0 .same)
+    refresh-same (a .q) (a .bit) (a .n) 1 0 (a .n) _ _ _ _ (omega arith) (λ i h. ap (λ (v : ℕ → ℕ). v i) (behind c)) (c .convert-steps .ensures .0 .same)
 
 convert-steps-requires : tie.Need-convert-steps-requires
 unfolding convertSteps

@@ -85,7 +85,7 @@ recorded : (c : tie.After-write-steps) → let a = start (passed (there c)) .arg
 recorded c =
     let z = there c in
     let a = start (passed z) .args in
-    c .write-steps .ensures .2 ∙ ap (λ (l : List Step). overwrite (a .records .now) 0 (bytes l)) (sample-same (a .q) (a .n) (a .k) (pair-large (pair (passed z))) _ (at (a .x .now)) _ (at (a .y .now)) (at (a .words .now)) (x-front z) (y-front z))
+    c .write-steps .ensures .2 ∙ ap (λ (l : List Step). overwrite (a .records .now) 0 (bytes l)) (sample-same (a .q) (a .n) (a .k) (pair-large (pair (passed z))) _ (at (a .x .now)) _ (at (a .y .now)) (at (a .words .now)) (at (a .words .now)) (x-front z) (y-front z) (λ i l. refl))
 
 -- the checks have passed, seen from the end
 abbrev at-end : tie.After-slice-known7 → tie.After-enum-told
