@@ -26,7 +26,6 @@ ghost use Rattle.noise.specs.Split.{targets, noiseSplit};
 ghost use Rattle.capi.specs.Structs.{answerOf, stringOf, residueOf, signedOf, parametersOf, returned, answered};
 ghost use Rattle.capi.specs.FileText.{wordsAndText, lessonTextWritten, reportTextWritten};
 
-// Code 0 and the count, or the number and the position of a refusal.
 #[repr(C)]
 pub struct TpAnswer {
     pub code: u32,
