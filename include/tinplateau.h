@@ -48,9 +48,10 @@ extern "C" {
 #define TP_MAX_FILE 60000
 #define TP_REPORT_ROOM 1200
 
-/* The random words of a converted bit, of a converted string, and of a sample; the words of a sample's work area, which is a polynomial's too;
- * the step records of a sample, and their bytes; the shares of a polynomial's x, y and output, each, and its random words; the bytes of shared ML-KEM noise, where k is that of the set, and
- * the shares of x and y that they are split into, each; the bytes of a lesson's text buffer. They are of type size_t, and not for #if. */
+/* The random words of a converted bit, of a converted string, and of a sample; the words of a sample's work area, which is a polynomial's too; the
+ * step records of a sample, for an n from 1 on, and their bytes; the shares of a polynomial's x, y and output, each, and its random words; the
+ * bytes of shared ML-KEM noise, where k is that of the set, and the shares of x and y that they are split into, each; the bytes of a lesson's text
+ * buffer. They are of type size_t, and not for #if. */
 #ifdef __cplusplus
 #define TP_SIZE(number) static_cast<size_t>(number)
 #else
@@ -238,10 +239,10 @@ TP_NODISCARD
 tp_answer tp_sample(size_t n, size_t k, uint16_t q, const uint16_t *x, size_t x_len, const uint16_t *y, size_t y_len, const uint16_t *words,
                     size_t words_len, size_t start, uint16_t *out, size_t out_len, uint16_t *work, size_t work_len);
 
-/* Samples as tp_sample does with start 0, and writes a record of eight bytes for each value on the way, in the order of the steps: R = 2k(5n(n +
- * 1)/2 - 3) of them. A record is the bytes of "ST", the bit's number (x bits 0 to k - 1, y bits k to 2k - 1), round, share, kind, and the value
- * in two bytes, low first. Shares, rounds and pairs are counted from 1. The kinds: 0 share b(j) of the bit, 1 B, 2 B * b(j) modulo q, 3 C with
- * b(j) already added to C(1), in round j; 4 a share after a pair's word, the round being the pair's number; 5 an output share with this bit in
+/* Samples as tp_sample does with start 0, and writes a record of eight bytes for each value on the way, in the order of the steps. There are
+ * R = 2k(5n(n + 1)/2 - 3) of them. A record is the bytes of "ST", the bit's number (x bits 0 to k - 1, y bits k to 2k - 1), round, share, kind, and
+ * the value in two bytes, low first. Shares, rounds and pairs are counted from 1. The kinds: 0 share b(j) of the bit, 1 B, 2 B * b(j) modulo q, 3 C
+ * with b(j) already added to C(1), in round j; 4 a share after a pair's word, the round being the pair's number; 5 an output share with this bit in
  * it, round 0. Answers W = 2kn(n - 1). Output and work area are then as tp_sample leaves them. The records together show what the shares hide:
  * they are for a lesson, not for a secret.
  * Refuses 1 to 11 as tp_sample; 26 (fewer than 8R bytes for the records). Bytes past the last record keep their content. */

@@ -104,7 +104,7 @@ def check_values(picture, sample, records):
 
 
 def check_way(picture, boxes, chosen):
-    """A line for each bit goes through the chosen share's cells from b to output, each in a box of its own, and through no other text."""
+    """A line for each bit goes through the chosen share's cells from b to output, and through no other text; each is in a box, the first 200 looked at in one of its own."""
     ways = picture.lines('way')
     same('the ways', len(ways), len({record.bit for record in chosen}))
     for bit, way in enumerate(ways):

@@ -31,7 +31,7 @@ across-from k t f h =
     rw e (ap₂ _++_ (ap f (add-zero t)) (across-same (k - (t + 1)) _ _ (λ i l. ap f (omega arith))))
 
 -- of as many records each
-pub length-across : (n c : ℕ) (f : ℕ → List Step) → ((i : ℕ) → i < n → length (f i) ≡ c) → length (across n f) ≡ n * c
+length-across : (n c : ℕ) (f : ℕ → List Step) → ((i : ℕ) → i < n → length (f i) ≡ c) → length (across n f) ≡ n * c
 unfolding across
 length-across zero c f h = sym (zero-mul c)
 length-across (suc n) c f h = length-append (f zero) (across n (λ i. f (suc i))) ∙ omega (arith, h zero (omega arith), length-across n c (λ i. f (suc i)) (λ i l. h (suc i) (suc-le-suc l)))

@@ -24,7 +24,7 @@ valueBytes v = v % 256 ∷ v / 256 ∷ []
 abbrev pub stepBytes : Step → List ℕ
 stepBytes s = ascii "ST" ++ (s .bit ∷ s .round ∷ s .share ∷ s .kind ∷ valueBytes (s .value))
 
--- how many they are
+-- the bytes of a record
 abbrev pub recordBytes : ℕ
 recordBytes = 8
 

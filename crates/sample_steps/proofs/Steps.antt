@@ -16,7 +16,7 @@ use Rattle.totals.specs.Totals.{signedSum, signed-zero, totalsOf, totals-row}
 use Rattle.records.specs.Records.{Step, across, Fits, Recorded}
 use Rattle.records.specs.Laws.{across-same, across-from, perShare-same, fits-first, Left, left-all, left-next, left-none}
 use Rattle.steps.specs.Steps.{convertSteps, bitSteps, stringSteps, recordCount}
-use Rattle.steps.specs.Laws.{string-same}
+use Rattle.steps.specs.Laws.{stringSteps-same}
 
 -- ---- the bits of a string
 
@@ -68,12 +68,12 @@ module _ (n k q : ℕ) (pos : 0 < q) (x w : ℕ → ℕ) (work : List ℕ) (zero
   x-total t i h = ap (λ (a : ℕ). signedSum q false a (stringShare q n t x w i)) (zeros i h) ∙ signed-zero q pos n t x w i
 
   pub x-steps : stringSteps q n k 0 x w (λ t i. signedSum q false (at work i) (stringShare q n t x w i)) ≡ stringSteps q n k 0 x w (λ t. stringShare q n t x w)
-  x-steps = string-same q n k 0 x x w w _ _ (λ i h. refl) (λ i h. refl) (λ t l. x-total t)
+  x-steps = stringSteps-same q n k 0 x x w w _ _ (λ i h. refl) (λ i h. refl) (λ t l. x-total t)
 
-  -- those of y, with the totals of x behind it
+  -- those of y, with x's rows already in the totals
   pub y-steps : (y v : ℕ → ℕ) (first : List ℕ) → first ≡ overwrite work 0 (table n (λ i. signedSum q false (at work i) (stringShare q n k x w i)))
       → stringSteps q n k k y v (λ t i. signedSum q true (at first i) (stringShare q n t y v i)) ≡ stringSteps q n k k y v (λ t i. sub q (stringShare q n k x w i) (stringShare q n t y v i))
-  y-steps y v first e = string-same q n k k y y v v _ _ (λ i h. refl) (λ i h. refl) (λ t l i h. ap (λ (a : ℕ). sub q a (stringShare q n t y v i)) (front-at work n _ first e i h ∙ x-total k i h))
+  y-steps y v first e = stringSteps-same q n k k y y v v _ _ (λ i h. refl) (λ i h. refl) (λ t l i h. ap (λ (a : ℕ). sub q a (stringShare q n t y v i)) (front-at work n _ first e i h ∙ x-total k i h))
 
 -- ---- the numbers that the code computes
 

@@ -20,7 +20,7 @@ use Rattle.sampler.specs.Calls.{call-words}
 use Rattle.records.specs.Records.{Step, step, stepBytes, recordBytes, bytes}
 use Rattle.records.specs.Laws.{length-bytes}
 use Rattle.steps.specs.Steps.{stepRecords, recordCount}
-use Rattle.steps.specs.Laws.{sample-same}
+use Rattle.steps.specs.Laws.{sampleSteps-same}
 use Rattle.steps.specs.Walk.{none}
 use Rattle.steps.specs.Count.{record-count, records-at, records-last}
 use Rattle.steps.specs.Fields.{Proper, records-proper}
@@ -104,7 +104,7 @@ module _ (n k q : ℕ) (x y words out work records : List ℕ) where
       let P = shared-pair n k q x y h in (
         ap (λ (cs : List Check). cs ++ (roomChecks n (length out) n (length work) ++ room)) (words-around 0 (sampleWords n k) q (words-some P) words words′ e),
         ap₂ lists (ap (λ (o : Outcome ℕ Buffers). o .buffers) (call-words n k q x y words 0 out work words′ e))
-            (ap (λ (l : List Step). overwrite records 0 (bytes l)) (sample-same q n k (pair-large P) (at x) (at x) (at y) (at y) (at words) (at words′) (λ i l. refl) (λ i l. refl) (take-same (sampleWords n k) words words′ e))),
+            (ap (λ (l : List Step). overwrite records 0 (bytes l)) (sampleSteps-same q n k (pair-large P) (at x) (at x) (at y) (at y) (at words) (at words′) (λ i l. refl) (λ i l. refl) (take-same (sampleWords n k) words words′ e))),
       ))
 
   -- ---- one that passes every check

@@ -13,8 +13,8 @@ ghost use Rattle.checks.specs.Checks.{checked};
 ghost use Rattle.checks.specs.Answers.{checkedReading, outcome};
 ghost use Rattle.conversion.specs.Conversion.{bitsAt, bitWords, convertBit};
 ghost use Rattle.conversion.specs.Arrays.{Holds, Drawn, Modulus};
-ghost use Rattle.totals.specs.Sample.{stringShare, sampleShares, sampleWords};
-ghost use Rattle.totals.specs.Totals.{signedSum};
+ghost use Rattle.totals.specs.Sample.{sampleShares, sampleWords};
+ghost use Rattle.totals.specs.Totals.{withRow, totalsOf};
 ghost use Rattle.sampler.specs.Sampler.{both};
 ghost use Rattle.records.specs.Records.{Fits, Recorded, bytes};
 ghost use Rattle.steps.specs.Steps.{convertSteps, bitSteps, stringSteps, stepRecords};
@@ -59,7 +59,7 @@ fn convert_bit_steps(
     }
 }
 
-// Bit t of a string, whose record has the number `bit`: its row is added to the totals or taken off, and their records follow its own.
+// Bit t of a string, whose records have the number `bit`: its row is added to the totals or taken off, and their records follow its own.
 fn add_bit_steps(
     shares: &[u16; 8],
     t: usize,
@@ -73,8 +73,8 @@ fn add_bit_steps(
     records: &mut [u8],
     position: usize,
 ) -> usize
-    requires { ⌜ (t < 16) × (1 ≤ n) × (n ≤ 8) × Modulus q × Drawn q start (bitWords n) (now words) × (n ≤ length (now work)) × Below q n (at (now work)) × Fits (now records) position (bitSteps q bit n (bitsAt (at (now shares)) t) (after start (at (now words))) (λ i. signedSum q negative (at (now work) i) (convertBit q n (bitsAt (at (now shares)) t) (after start (at (now words))) i))) ⌝ }
-    ensures { λ r. ⌜ (now (work .exit) ≡ overwrite (now (work .entry)) 0 (table n (λ i. signedSum q negative (at (now (work .entry)) i) (convertBit q n (bitsAt (at (now (shares .entry))) t) (after start (at (now (words .entry)))) i)))) × Recorded (now (records .entry)) position (bitSteps q bit n (bitsAt (at (now (shares .entry))) t) (after start (at (now (words .entry)))) (λ i. signedSum q negative (at (now (work .entry)) i) (convertBit q n (bitsAt (at (now (shares .entry))) t) (after start (at (now (words .entry)))) i))) (now (records .exit)) r ⌝ }
+    requires { ⌜ (t < 16) × (1 ≤ n) × (n ≤ 8) × Modulus q × Drawn q start (bitWords n) (now words) × (n ≤ length (now work)) × Below q n (at (now work)) × Fits (now records) position (bitSteps q bit n (bitsAt (at (now shares)) t) (after start (at (now words))) (withRow q negative (now work) (convertBit q n (bitsAt (at (now shares)) t) (after start (at (now words)))))) ⌝ }
+    ensures { λ r. ⌜ (now (work .exit) ≡ overwrite (now (work .entry)) 0 (table n (withRow q negative (now (work .entry)) (convertBit q n (bitsAt (at (now (shares .entry))) t) (after start (at (now (words .entry)))))))) × Recorded (now (records .entry)) position (bitSteps q bit n (bitsAt (at (now (shares .entry))) t) (after start (at (now (words .entry)))) (withRow q negative (now (work .entry)) (convertBit q n (bitsAt (at (now (shares .entry))) t) (after start (at (now (words .entry))))))) (now (records .exit)) r ⌝ }
 {
     let bits = conversion::bits_at(shares, t);
     let row = convert_bit_steps(&bits, n, q, words, start, bit, records, position);
@@ -97,8 +97,8 @@ fn add_string_steps(
     records: &mut [u8],
     position: usize,
 ) -> usize
-    requires { ⌜ (2 ≤ n) × (n ≤ 8) × (k ≤ 16) × (first ≤ 16) × Modulus q × Drawn q start (k * bitWords n) (now words) × (n ≤ length (now work)) × Below q n (at (now work)) × Fits (now records) position (stringSteps q n k first (at (now shares)) (after start (at (now words))) (λ t i. signedSum q negative (at (now work) i) (stringShare q n t (at (now shares)) (after start (at (now words))) i))) ⌝ }
-    ensures { λ r. ⌜ (now (work .exit) ≡ overwrite (now (work .entry)) 0 (table n (λ i. signedSum q negative (at (now (work .entry)) i) (stringShare q n k (at (now (shares .entry))) (after start (at (now (words .entry)))) i)))) × Recorded (now (records .entry)) position (stringSteps q n k first (at (now (shares .entry))) (after start (at (now (words .entry)))) (λ t i. signedSum q negative (at (now (work .entry)) i) (stringShare q n t (at (now (shares .entry))) (after start (at (now (words .entry)))) i))) (now (records .exit)) r ⌝ }
+    requires { ⌜ (2 ≤ n) × (n ≤ 8) × (k ≤ 16) × (first ≤ 16) × Modulus q × Drawn q start (k * bitWords n) (now words) × (n ≤ length (now work)) × Below q n (at (now work)) × Fits (now records) position (stringSteps q n k first (at (now shares)) (after start (at (now words))) (totalsOf n q negative (at (now shares)) (after start (at (now words))) (now work))) ⌝ }
+    ensures { λ r. ⌜ (now (work .exit) ≡ overwrite (now (work .entry)) 0 (table n (totalsOf n q negative (at (now (shares .entry))) (after start (at (now (words .entry)))) (now (work .entry)) k))) × Recorded (now (records .entry)) position (stringSteps q n k first (at (now (shares .entry))) (after start (at (now (words .entry)))) (totalsOf n q negative (at (now (shares .entry))) (after start (at (now (words .entry)))) (now (work .entry)))) (now (records .exit)) r ⌝ }
 {
     let mut p = start;
     let mut end = position;

@@ -29,7 +29,7 @@ fn extend(a: [Word; 8], j: usize, q: Word, words: &[Word], start: usize) -> [Wor
     list
 }
 
-// The first n of the list times a bit, which are below q as they stand.
+// The products of the first n of the list with a bit: below q without a reduction.
 fn multiply(list: [Word; 8], n: usize, bit: Word, q: Word) -> [Word; 8]
     requires { ⌜ (n ≤ 8) × (bit < 2) × Below q n (at list) ⌝ }
     ensures { λ r. ⌜ Holds n (λ i. mul q (at list i) bit) r ⌝ }

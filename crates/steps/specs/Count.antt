@@ -15,7 +15,7 @@ use Rattle.totals.specs.Sample.{stringShare, sampleShare}
 use Rattle.records.specs.Records.{Step, step, stepBytes, recordBytes, bytes, across, perShare}
 use Rattle.records.specs.Laws.{across-last, length-perShare, bytes-at}
 use Rattle.steps.specs.Steps.{convertSteps, bitSteps, stringSteps, sampleSteps, stepRecords, recordCount}
-use Rattle.steps.specs.Walk.{none, bitCount, BitRecords, bit-each, sample-each}
+use Rattle.steps.specs.Walk.{none, BitRecords, sample-each}
 
 module _ (q n : ℕ) where
   nothing : (bit : ℕ) (b w totals : Unit → ℕ → ℕ) → BitRecords {E = Unit} (λ r. Unit) q n bit b w totals
@@ -31,9 +31,6 @@ module _ (q n : ℕ) where
         pair = λ A p s a one l h. tt;
         total = λ i l. tt;
       }
-
-  pub bit-count : (bit : ℕ) (b w totals : ℕ → ℕ) → length (bitSteps q bit n b w totals) ≡ bitCount n
-  bit-count bit b w totals = bit-each _ q n bit _ _ _ (nothing bit (λ e. b) (λ e. w) (λ e. totals)) .count tt
 
 module _ (n k q : ℕ) (x y words : List ℕ) where
   pub record-count : length (stepRecords n k q x y words) ≡ recordCount n k

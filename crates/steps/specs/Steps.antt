@@ -66,6 +66,9 @@ module _ (q n k : ℕ) where
 abbrev pub stepRecords : ℕ → ℕ → ℕ → List ℕ → List ℕ → List ℕ → List Step
 stepRecords n k q x y words = sampleSteps q n k (at x) (at y) (at words)
 
--- how many they are
+-- how many a bit has, and a sample
+abbrev pub bitCount : ℕ → ℕ
+bitCount n = 5 * n * (n + 1) / 2 - 3
+
 abbrev pub recordCount : ℕ → ℕ → ℕ
-recordCount n k = 2 * k * (5 * n * (n + 1) / 2 - 3)
+recordCount n k = 2 * k * bitCount n

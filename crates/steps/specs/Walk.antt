@@ -1,7 +1,7 @@
 -- One walk over the records of a sample: what holds of each kind of record holds of each record, and how many they are.
 use mathlib.Core.Path.{_≡_, refl, sym, ap, ap₂, subst, _∙_, fun-ext}
 use mathlib.Core.List.{List, [], _∷_, _++_}
-use Prim.Native.Nat.{ℕ, zero, suc, _+_, _-_, _*_, _/_, _≤_, _<_}
+use Prim.Native.Nat.{ℕ, zero, suc, _+_, _-_, _*_, _≤_, _<_}
 use native.Mathlib.Nat.{zero-mul, mul-one, not-suc-le-zero}
 use native.Mathlib.Decide.{decLt}
 use native.Mathlib.Omega.{arith}
@@ -14,18 +14,13 @@ use Rattle.conversion.specs.Laws.{pairs-twice}
 use Rattle.totals.specs.Sample.{stringShare}
 use Rattle.records.specs.Records.{Step, step, across}
 use Rattle.records.specs.Laws.{across-last}
-use Rattle.steps.specs.Steps.{roundSteps, refreshShareSteps, refreshSteps, convertSteps, bitSteps, stringSteps, sampleSteps, recordCount}
+use Rattle.steps.specs.Steps.{bitCount, roundSteps, refreshShareSteps, refreshSteps, convertSteps, bitSteps, stringSteps, sampleSteps, recordCount}
 
 -- what stands behind the end of a list of records
 abbrev pub none : Step
 none = step 0 0 0 0 0
 
--- ---- how many records a bit has
-
-abbrev pub bitCount : ℕ → ℕ
-bitCount n = 5 * n * (n + 1) / 2 - 3
-
--- those of round j + 1, and of the first n rounds
+-- ---- how many records a bit has: those of round j + 1, and of the first n rounds
 abbrev roundCount : ℕ → ℕ
 roundCount zero = 1
 roundCount (suc j) = 3 * suc j + 4

@@ -25,12 +25,12 @@ module _ (q : ℕ) (pos : 0 < q) where
   signed-lt false total a = add-lt q pos _ _
 
   -- the terms of a sum one by one
-  pub signed-none : (negative : Bool) (total : ℕ) (f : ℕ → ℕ) → total < q → signedSum q negative total (sum q 0 f) ≡ total
+  signed-none : (negative : Bool) (total : ℕ) (f : ℕ → ℕ) → total < q → signedSum q negative total (sum q 0 f) ≡ total
   unfolding sum
   signed-none true total f h = rw (neg-zero q pos) (add-zero q total ∙ reduce-small q h)
   signed-none false total f h = add-zero q total ∙ reduce-small q h
 
-  pub signed-next : (negative : Bool) (total t : ℕ) (f : ℕ → ℕ) → signedSum q negative (signedSum q negative total (sum q t f)) (f t) ≡ signedSum q negative total (sum q (t + 1) f)
+  signed-next : (negative : Bool) (total t : ℕ) (f : ℕ → ℕ) → signedSum q negative (signedSum q negative total (sum q t f)) (f t) ≡ signedSum q negative total (sum q (t + 1) f)
   signed-next true total t f = rw (add-one t, sum-last q t f, neg-add q pos) (add-assoc q total _ _)
   signed-next false total t f = rw (add-one t, sum-last q t f) (add-assoc q total _ _)
 
@@ -39,7 +39,7 @@ module _ (q : ℕ) (pos : 0 < q) where
   unfolding stringShare
   signed-zero n k x w i = zero-add q _ ∙ reduce-sum q k _
 
-  pub signed-share : (n k : ℕ) (x y w : ℕ → ℕ) (i : ℕ)
+  signed-share : (n k : ℕ) (x y w : ℕ → ℕ) (i : ℕ)
       → signedSum q true (signedSum q false 0 (stringShare q n k x w i)) (stringShare q n k y (after (k * bitWords n) w) i) ≡ sampleShare q n k x y w i
   unfolding sampleShare
   signed-share n k x y w i = ap (λ (a : ℕ). sub q a (stringShare q n k y (after (k * bitWords n) w) i)) (signed-zero n k x w i)
@@ -49,6 +49,10 @@ module _ (q n : ℕ) (large : 2 < q) where
   pub stringShare-local : (k : ℕ) (x x′ w w′ : ℕ → ℕ) → Same n x x′ → Same (k * bitWords n) w w′ → Same n (stringShare q n k x w) (stringShare q n k x′ w′)
   unfolding stringShare
   stringShare-local k x x′ w w′ e s i l = sum-cong q k _ _ (λ t h. row-local q n large k t x x′ w w′ h e s i l)
+
+-- the totals of l with a row in them
+abbrev pub withRow : ℕ → Bool → List ℕ → (ℕ → ℕ) → ℕ → ℕ
+withRow q negative l r i = signedSum q negative (at l i) (r i)
 
 -- the totals after t bits of a string, which were those of l before
 abbrev pub totalsOf : ℕ → ℕ → Bool → (ℕ → ℕ) → (ℕ → ℕ) → List ℕ → ℕ → ℕ → ℕ

@@ -14,7 +14,7 @@ use Rattle.totals.specs.Totals.{signedSum}
 use Rattle.records.specs.Records.{Recorded, perShare}
 use Rattle.records.specs.Laws.{perShare-same, recorded-then, fits-first, fits-rest}
 use Rattle.steps.specs.Steps.{convertSteps}
-use Rattle.steps.specs.Laws.{convert-same}
+use Rattle.steps.specs.Laws.{convertSteps-same}
 use Rattle.sample_steps.proofs.add_bit_steps.Statement.{statement}
 use Rattle.sample_steps.proofs.add_bit_steps.Tie as tie
 
@@ -50,7 +50,7 @@ small c i l = rw (bits c i l) (bit-lt _ _)
 
 -- the records of its steps
 wrote : (c : tie.After-convert-bit-steps) → let s = start (begun c) in Recorded (s .args .records .now) (s .args .position) (convertSteps (s .args .q) (s .args .bit) (s .args .n) (bit s) (words s)) (c .convert-bit-steps .last .1 .1 .1 .1 .1 .1 .0) (c .convert-bit-steps .result .position)
-wrote c = let s = start (begun c) in rw (convert-same (s .args .q) (s .args .bit) (s .args .n) _ _ (words s) (words s) (bits (begun c)) (λ i h. refl)) at (c .convert-bit-steps .ensures .1)
+wrote c = let s = start (begun c) in rw (convertSteps-same (s .args .q) (s .args .bit) (s .args .n) _ _ (words s) (words s) (bits (begun c)) (λ i h. refl)) at (c .convert-bit-steps .ensures .1)
 
 row : (c : tie.After-convert-bit-steps) → let s = start (begun c) in Same (s .args .n) (at (c .convert-bit-steps .result .list)) (convertBit (s .args .q) (s .args .n) (bit s) (words s))
 row c i l =
@@ -75,7 +75,7 @@ convert-bit-steps-requires : tie.Need-convert-bit-steps-requires
 convert-bit-steps-requires c κs =
     let b = c .before .before in
     let s = start b in
-    (s .pre .1, s .pre .2, small b, s .pre .3, s .pre .4, rw (convert-same (s .args .q) (s .args .bit) (s .args .n) _ _ (words s) (words s) (bits b) (λ i h. refl)) (fits-first _ _ _ _ (s .pre .7)))
+    (s .pre .1, s .pre .2, small b, s .pre .3, s .pre .4, rw (convertSteps-same (s .args .q) (s .args .bit) (s .args .n) _ _ (words s) (words s) (bits b) (λ i h. refl)) (fits-first _ _ _ _ (s .pre .7)))
 
 add-row-requires : tie.Need-add-row-requires
 add-row-requires c κs =

@@ -11,7 +11,7 @@ use Rattle.conversion.specs.Arrays.{drawn-part}
 use Rattle.conversion.specs.Lists.{holds-below, bit-done}
 use Rattle.records.specs.Laws.{recorded-then, fits-first, fits-rest}
 use Rattle.steps.specs.Steps.{refreshSteps, convertSteps}
-use Rattle.steps.specs.Laws.{refresh-same}
+use Rattle.steps.specs.Laws.{refreshSteps-same}
 use Rattle.sample_steps.proofs.convert_bit_steps.Statement.{statement}
 use Rattle.sample_steps.proofs.convert_bit_steps.Tie as tie
 
@@ -28,7 +28,7 @@ steps : (c : tie.After-convert-steps) → let a = start c .args in let w = after
     refreshSteps (a .q) (a .bit) 1 0 (a .n) (after (c .convert-steps .result .next) (at (a .words .now))) (at (c .convert-steps .result .list)) ≡ refreshSteps (a .q) (a .bit) 1 0 (a .n) (after (pairs (a .n)) w) (convert (a .q) (a .n) (at (a .bits .now)) w)
 steps c =
     let a = start c .args in
-    refresh-same (a .q) (a .bit) (a .n) 1 0 (a .n) _ _ _ _ (omega arith) (λ i h. ap (λ (v : ℕ → ℕ). v i) (behind c)) (c .convert-steps .ensures .0 .same)
+    refreshSteps-same (a .q) (a .bit) (a .n) 1 0 (a .n) _ _ _ _ (omega arith) (λ i h. ap (λ (v : ℕ → ℕ). v i) (behind c)) (c .convert-steps .ensures .0 .same)
 
 convert-steps-requires : tie.Need-convert-steps-requires
 unfolding convertSteps

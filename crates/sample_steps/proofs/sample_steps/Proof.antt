@@ -22,7 +22,7 @@ use Rattle.sampler.specs.Accepted.{SharedPair, shared-pair, pair-large, fit-dra
 use Rattle.sampler.specs.Calls.{shares-local, call-accepted}
 use Rattle.records.specs.Records.{Step, recordBytes, bytes}
 use Rattle.steps.specs.Steps.{stepRecords, recordCount}
-use Rattle.steps.specs.Laws.{sample-same}
+use Rattle.steps.specs.Laws.{sampleSteps-same}
 use Rattle.steps.specs.Count.{record-count}
 use Rattle.sample_steps.specs.SampleSteps.{recordRoom, stepChecks, lists, stepsSampled}
 use Rattle.sample_steps.proofs.sample_steps.Statement.{statement}
@@ -85,7 +85,7 @@ recorded : (c : tie.After-write-steps) → let a = start (passed (there c)) .arg
 recorded c =
     let z = there c in
     let a = start (passed z) .args in
-    c .write-steps .ensures .2 ∙ ap (λ (l : List Step). overwrite (a .records .now) 0 (bytes l)) (sample-same (a .q) (a .n) (a .k) (pair-large (pair (passed z))) _ (at (a .x .now)) _ (at (a .y .now)) (at (a .words .now)) (at (a .words .now)) (x-front z) (y-front z) (λ i l. refl))
+    c .write-steps .ensures .2 ∙ ap (λ (l : List Step). overwrite (a .records .now) 0 (bytes l)) (sampleSteps-same (a .q) (a .n) (a .k) (pair-large (pair (passed z))) _ (at (a .x .now)) _ (at (a .y .now)) (at (a .words .now)) (at (a .words .now)) (x-front z) (y-front z) (λ i l. refl))
 
 -- the checks have passed, seen from the end
 abbrev at-end : tie.After-slice-known7 → tie.After-enum-told
