@@ -6,8 +6,8 @@ use native.Mathlib.Nat as N
 use native.Mathlib.Numerals.{add-one}
 use native.Mathlib.Decide.{decLe}
 use native.Mathlib.Omega.{arith}
-use lib.ListN.{length, getD, set, take, drop, length-append, drop-of-length-le, List·getD-append}
-use lib.Seq.{getD-drop, getD-append-add, length-take-le, take-all, take-length, take-suc, take-at, drop-at, drop-append-add, drop-drop, drop-cons, set-at, append-snoc, paste, paste-zero, paste-suc, length-paste}
+use lib.ListN.{length, getD, set, take, drop, length-append, length-drop, drop-of-length-le, List·getD-append}
+use lib.Seq.{getD-drop, getD-append-add, take-append-le, drop-append-le, length-take-le, take-all, take-length, take-suc, take-at, drop-at, drop-append-add, drop-drop, drop-cons, set-at, append-snoc, paste, paste-zero, paste-suc, length-paste}
 use Rattle.buffers.specs.Overwrite.{overwrite}
 
 -- ---- one element at a time: s is written as far as its first i elements
@@ -73,6 +73,12 @@ module _ (l s : List ℕ) where
 
   pub drop-front : (n : ℕ) → length s ≡ n → drop n (overwrite l 0 s) ≡ drop n l
   drop-front n e = ap (drop n) (front l s) ∙ drop-at s (drop (length s) l) n e ∙ ap (λ (m : ℕ). drop m l) e
+
+  -- a part of it
+  pub front-part : (a c : ℕ) → a + c ≤ length s → take c (drop a (overwrite l 0 s)) ≡ take c (drop a s)
+  front-part a c h =
+      ap (λ (m : List ℕ). take c (drop a m)) (front l s) ∙ ap (take c) (drop-append-le a s (drop (length s) l) (omega arith))
+      ∙ take-append-le c (drop a s) (drop (length s) l) (omega (arith, length-drop a s))
 
   pub front-below : (i : ℕ) → i < length s → getD (overwrite l 0 s) i 0 ≡ getD s i 0
   front-below i h = ap (λ (k : List ℕ). getD k i 0) (front l s) ∙ List·getD-append s (drop (length s) l) 0 i h

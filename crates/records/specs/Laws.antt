@@ -9,7 +9,7 @@ use lib.ListN.{length, getD, take, drop, length-append}
 use lib.Seq.{take-at, drop-at, drop-drop}
 use Rattle.buffers.specs.Positions.{Same}
 use Rattle.text.specs.Laws.{wrote-nothing, wrote-then, wrote-length}
-use Rattle.records.specs.Records.{Step, step, stepBytes, recordBytes, bytes, across, perShare, Fits, Recorded}
+use Rattle.records.specs.Records.{Step, step, none, stepBytes, recordBytes, bytes, across, perShare, Fits, Recorded}
 
 -- ---- lists one behind the other
 
@@ -29,6 +29,13 @@ unfolding across
 across-from k t f h =
     let e : k - t ≡ suc (k - (t + 1)) = omega arith in
     rw e (ap₂ _++_ (ap f (add-zero t)) (across-same (k - (t + 1)) _ _ (λ i l. ap f (omega arith))))
+
+-- of a record each
+pub across-at : (n : ℕ) (r : ℕ → Step) (i : ℕ) → i < n → getD (across n (λ i. r i ∷ [])) i none ≡ r i
+unfolding across
+across-at zero r i h = absurd (not-suc-le-zero h)
+across-at (suc n) r zero h = refl
+across-at (suc n) r (suc i) h = across-at n (λ i. r (suc i)) i (le-of-suc-le-suc h)
 
 -- of as many records each
 length-across : (n c : ℕ) (f : ℕ → List Step) → ((i : ℕ) → i < n → length (f i) ≡ c) → length (across n f) ≡ n * c
@@ -63,15 +70,15 @@ length-bytes [] = refl
 length-bytes (s ∷ l) = length-append (stepBytes s) (bytes l) ∙ omega (arith, length-bytes l)
 
 -- record p has the bytes from 8 × p on
-pub bytes-at : (l : List Step) (none : Step) (p : ℕ) → p < length l → take recordBytes (drop (recordBytes * p) (bytes l)) ≡ stepBytes (getD l p none)
+pub bytes-at : (l : List Step) (p : ℕ) → p < length l → take recordBytes (drop (recordBytes * p) (bytes l)) ≡ stepBytes (getD l p none)
 unfolding bytes
-bytes-at [] none p h = absurd (not-suc-le-zero h)
-bytes-at (s ∷ l) none zero h = take-at (stepBytes s) (bytes l) recordBytes refl
-bytes-at (s ∷ l) none (suc p) h =
+bytes-at [] p h = absurd (not-suc-le-zero h)
+bytes-at (s ∷ l) zero h = take-at (stepBytes s) (bytes l) recordBytes refl
+bytes-at (s ∷ l) (suc p) h =
     let e : recordBytes * suc p ≡ recordBytes + recordBytes * p = omega arith in
     ap (λ (i : ℕ). take recordBytes (drop i (stepBytes s ++ bytes l))) e
     ∙ ap (take recordBytes) (sym (drop-drop (recordBytes * p) recordBytes (stepBytes s ++ bytes l)) ∙ ap (drop (recordBytes * p)) (drop-at (stepBytes s) (bytes l) recordBytes refl))
-    ∙ bytes-at l none p (le-of-suc-le-suc h)
+    ∙ bytes-at l p (le-of-suc-le-suc h)
 
 -- ---- what was written
 

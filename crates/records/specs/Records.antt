@@ -16,6 +16,10 @@ pub record Step : Type 0 where
 abbrev pub step : ℕ → ℕ → ℕ → ℕ → ℕ → Step
 step bit round share kind value = record { bit = bit; round = round; share = share; kind = kind; value = value }
 
+-- what stands behind the end of a list of records
+abbrev pub none : Step
+none = step 0 0 0 0 0
+
 -- two bytes, low first
 abbrev pub valueBytes : ℕ → List ℕ
 valueBytes v = v % 256 ∷ v / 256 ∷ []

@@ -5,37 +5,24 @@ use Prim.Native.Nat.{ℕ, _+_, _-_, _*_, _≤_, _<_}
 use native.Mathlib.Nat.{zero-add}
 use native.Mathlib.Omega.{arith}
 use borrow.Author.Tests.{le-leb, lt-leb}
-use lib.ListN.{length, getD, take, drop, length-drop}
-use lib.Seq.{take-append-le, drop-append-le}
+use lib.ListN.{length, getD, take, drop}
 use Rattle.buffers.specs.Overwrite.{overwrite}
-use Rattle.buffers.specs.Laws.{front, drop-front}
+use Rattle.buffers.specs.Laws.{front-part, drop-front}
 use Rattle.buffers.specs.Positions.{at}
 use Rattle.buffers.specs.PositionLaws.{take-same}
 use Rattle.checks.specs.Checks.{Check, Outcome, Verdict, accepted, refused, verdict, settled, roomChecks}
-use Rattle.checks.specs.Laws.{Hold, fail, hold-front, accepted-holds, passes-part, passes-behind, refuses, settled-answer, settled-accepted, settled-behind, settled-keeps, words-around}
+use Rattle.checks.specs.Laws.{Hold, fail, hold-front, accepted-holds, passes-part, passes-behind, refuses, settled-answer, settled-accepted, settled-behind, settled-keeps, settled-twice, words-around}
 use Rattle.totals.specs.Sample.{sampleShare, sampleWords}
 use Rattle.sampler.specs.Sampler.{Buffers, both, pairChecks, sampleChecks, sampled}
 use Rattle.sampler.specs.Accepted.{SharedPair, shared-pair, pair-large, words-some, call-checks}
 use Rattle.sampler.specs.Calls.{call-words}
-use Rattle.records.specs.Records.{Step, step, stepBytes, recordBytes, bytes}
+use Rattle.records.specs.Records.{Step, step, none, stepBytes, recordBytes, bytes}
 use Rattle.records.specs.Laws.{length-bytes}
 use Rattle.steps.specs.Steps.{stepRecords, recordCount}
 use Rattle.steps.specs.Laws.{sampleSteps-same}
-use Rattle.steps.specs.Walk.{none}
 use Rattle.steps.specs.Count.{record-count, records-at, records-last}
 use Rattle.steps.specs.Fields.{Proper, records-proper}
 use Rattle.sample_steps.specs.SampleSteps.{Lists, recordRoom, stepChecks, lists, stepsSampled}
-
--- a part of what was written at the front
-front-part : (l s : List ℕ) (a c : ℕ) → a + c ≤ length s → take c (drop a (overwrite l 0 s)) ≡ take c (drop a s)
-front-part l s a c h =
-    ap (λ (m : List ℕ). take c (drop a m)) (front l s) ∙ ap (take c) (drop-append-le a s (drop (length s) l) (omega arith))
-    ∙ take-append-le c (drop a s) (drop (length s) l) (omega (arith, length-drop a s))
-
--- what two calls with one verdict leave, the one what the other left
-settled-twice : {A B C : Type 0} (v : Verdict A) (before after : B) (view : C → B) (s t : C) → view s ≡ before → view t ≡ settled v before after .buffers → view (settled v s t .buffers) ≡ settled v before after .buffers
-settled-twice (accepted a) before after view s t e d = d
-settled-twice (refused c p) before after view s t e d = e
 
 module _ (n k q : ℕ) (x y words out work records : List ℕ) where
   -- the sampler's checks, and 26

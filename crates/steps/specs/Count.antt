@@ -1,9 +1,7 @@
--- How many records a bit has, and a sample: the walk, where nothing is to hold of a record.
--- And the last records of a sample.
-use mathlib.Core.Path.{_≡_, refl, sym, ap, _∙_}
-use mathlib.Core.List.{List, [], _∷_, _++_, append-assoc}
+-- How many records a sample has: the walk, where nothing is to hold of a record. And the last of them.
+use mathlib.Core.Path.{_≡_, sym, ap, _∙_}
+use mathlib.Core.List.{List, _++_, append-assoc}
 use Prim.Native.Nat.{ℕ, zero, suc, _+_, _-_, _*_, _≤_, _<_}
-use native.Mathlib.Nat.{not-suc-le-zero, le-of-suc-le-suc}
 use native.Mathlib.Numerals.{add-one}
 use native.Mathlib.Omega.{arith}
 use lib.ListN.{length, getD, take, drop, length-append}
@@ -12,10 +10,10 @@ use Rattle.residue.specs.Residue.{sub}
 use Rattle.buffers.specs.Positions.{at, after}
 use Rattle.conversion.specs.Conversion.{bitsAt, bitWords}
 use Rattle.totals.specs.Sample.{stringShare, sampleShare}
-use Rattle.records.specs.Records.{Step, step, stepBytes, recordBytes, bytes, across, perShare}
-use Rattle.records.specs.Laws.{across-last, length-perShare, bytes-at}
+use Rattle.records.specs.Records.{Step, step, none, stepBytes, recordBytes, bytes, across, perShare}
+use Rattle.records.specs.Laws.{across-last, across-at, length-perShare, bytes-at}
 use Rattle.steps.specs.Steps.{convertSteps, bitSteps, stringSteps, sampleSteps, stepRecords, recordCount}
-use Rattle.steps.specs.Walk.{none, BitRecords, sample-each}
+use Rattle.steps.specs.Walk.{BitRecords, sample-each}
 
 module _ (q n : ℕ) where
   nothing : (bit : ℕ) (b w totals : Unit → ℕ → ℕ) → BitRecords {E = Unit} (λ r. Unit) q n bit b w totals
@@ -38,15 +36,9 @@ module _ (n k q : ℕ) (x y words : List ℕ) where
 
   -- record p stands in the bytes from 8 × p on
   pub records-at : (p : ℕ) → p < recordCount n k → take recordBytes (drop (recordBytes * p) (bytes (stepRecords n k q x y words))) ≡ stepBytes (getD (stepRecords n k q x y words) p none)
-  records-at p l = bytes-at (stepRecords n k q x y words) none p (rw record-count l)
+  records-at p l = bytes-at (stepRecords n k q x y words) p (rw record-count l)
 
 -- ---- the last records of a sample
-
-across-at : (n : ℕ) (r : ℕ → Step) (i : ℕ) → i < n → getD (across n (λ i. r i ∷ [])) i none ≡ r i
-unfolding across
-across-at zero r i h = absurd (not-suc-le-zero h)
-across-at (suc n) r zero h = refl
-across-at (suc n) r (suc i) h = across-at n (λ i. r (suc i)) i (le-of-suc-le-suc h)
 
 -- of a list that ends with output shares
 shares-behind : (n bit : ℕ) (f : ℕ → ℕ) (l m : List Step) → l ≡ m ++ perShare n bit 0 5 f → (i : ℕ) → i < n → getD l (length l - n + i) none ≡ step bit 0 (suc i) 5 (f i)

@@ -12,13 +12,9 @@ use Rattle.buffers.specs.Positions.{after}
 use Rattle.conversion.specs.Conversion.{bitsAt, bitWords, pairs, extend, xorShare, convert, transfer, refreshShare}
 use Rattle.conversion.specs.Laws.{pairs-twice}
 use Rattle.totals.specs.Sample.{stringShare}
-use Rattle.records.specs.Records.{Step, step, across}
+use Rattle.records.specs.Records.{Step, step, none, across}
 use Rattle.records.specs.Laws.{across-last}
 use Rattle.steps.specs.Steps.{bitCount, roundSteps, refreshShareSteps, refreshSteps, convertSteps, bitSteps, stringSteps, sampleSteps, recordCount}
-
--- what stands behind the end of a list of records
-abbrev pub none : Step
-none = step 0 0 0 0 0
 
 -- ---- how many records a bit has: those of round j + 1, and of the first n rounds
 abbrev roundCount : ℕ → ℕ
@@ -53,23 +49,23 @@ module _ {E : Type 0} (P : (E → Step) → Type 0) where
     pub count : (e : E) → length (read e) ≡ c
     pub each : (p : ℕ) → p < c → P (λ e. getD (read e) p none)
 
-  pub each-same : {c : ℕ} {f g : E → List Step} → ((e : E) → f e ≡ g e) → Each c f → Each c g
+  each-same : {c : ℕ} {f g : E → List Step} → ((e : E) → f e ≡ g e) → Each c f → Each c g
   each-same {c} h F = subst (Each c) (fun-ext h) F
 
-  pub each-count : {c d : ℕ} {f : E → List Step} → c ≡ d → Each c f → Each d f
+  each-count : {c d : ℕ} {f : E → List Step} → c ≡ d → Each c f → Each d f
   each-count {c} {d} {f} h F = subst (λ (z : ℕ). Each z f) h F
 
-  pub each-none : Each 0 (λ e. [])
+  each-none : Each 0 (λ e. [])
   each-none = record { count = λ e. refl; each = λ p l. absurd (not-suc-le-zero l) }
 
-  pub each-one : (r : E → Step) → P r → Each 1 (λ e. r e ∷ [])
+  each-one : (r : E → Step) → P r → Each 1 (λ e. r e ∷ [])
   each-one r h = record { count = λ e. refl; each = go }
     where
       go : (p : ℕ) → p < 1 → P (λ e. getD (r e ∷ []) p none)
       go zero l = h
       go (suc p) l = absurd (omega arith)
 
-  pub each-append : {c d : ℕ} {f g : E → List Step} → Each c f → Each d g → Each (c + d) (λ e. f e ++ g e)
+  each-append : {c d : ℕ} {f g : E → List Step} → Each c f → Each d g → Each (c + d) (λ e. f e ++ g e)
   each-append {c} {d} {f} {g} F G = record { count = λ e. length-append (f e) (g e) ∙ ap₂ _+_ (F .count e) (G .count e); each = λ p l. go p l (decLt p c) }
     where
       go : (p : ℕ) → p < c + d → Dec (p < c) → P (λ e. getD (f e ++ g e) p none)
@@ -82,7 +78,7 @@ module _ {E : Type 0} (P : (E → Step) → Type 0) where
               ap (λ (j : ℕ). getD (f e ++ g e) j none) d ∙ getD-append-add (f e) (g e) (p - c) none
 
   -- c i in list i, and C n in the first n lists
-  pub each-across : (c C : ℕ → ℕ) (f : ℕ → E → List Step) → C 0 ≡ 0 → ((i : ℕ) → C (suc i) ≡ C i + c i)
+  each-across : (c C : ℕ → ℕ) (f : ℕ → E → List Step) → C 0 ≡ 0 → ((i : ℕ) → C (suc i) ≡ C i + c i)
       → (n : ℕ) → ((i : ℕ) → i < n → Each (c i) (f i)) → Each (C n) (λ e. across n (λ i. f i e))
   unfolding across
   each-across c C f first next zero F = each-count (sym first) each-none
@@ -91,10 +87,10 @@ module _ {E : Type 0} (P : (E → Step) → Type 0) where
       (each-append (each-across c C f first next n (λ i l. F i (omega arith))) (F n (omega arith))))
 
   -- as many in each
-  pub each-times : (c n : ℕ) (f : ℕ → E → List Step) → ((i : ℕ) → i < n → Each c (f i)) → Each (n * c) (λ e. across n (λ i. f i e))
+  each-times : (c n : ℕ) (f : ℕ → E → List Step) → ((i : ℕ) → i < n → Each c (f i)) → Each (n * c) (λ e. across n (λ i. f i e))
   each-times c n f F = each-across (λ i. c) (λ i. i * c) f (zero-mul c) (λ i. omega arith) n F
 
-  pub each-share : (n : ℕ) (r : ℕ → E → Step) → ((i : ℕ) → i < n → P (r i)) → Each n (λ e. across n (λ i. r i e ∷ []))
+  each-share : (n : ℕ) (r : ℕ → E → Step) → ((i : ℕ) → i < n → P (r i)) → Each n (λ e. across n (λ i. r i e ∷ []))
   each-share n r h = each-count (mul-one n) (each-times 1 n (λ i e. r i e ∷ []) (λ i l. each-one (r i) (h i l)))
 
   module _ (q n : ℕ) where
@@ -157,7 +153,7 @@ module _ {E : Type 0} (P : (E → Step) → Type 0) where
           (pairs-each (p + c) (suc i) c (λ e. after c (v e)) (λ e. refreshShare q i (suc i) c (v e) (A e)) (omega arith) (omega arith) (omega arith) (λ j k. K (c + j) (omega arith))
           (share-kept i (suc i) c v A (omega arith) (omega arith) (λ j k. K j (omega arith)) a)))
 
-      pub bit-each : Each (bitCount n) (λ e. bitSteps q bit n (b e) (w e) (totals e))
+      bit-each : Each (bitCount n) (λ e. bitSteps q bit n (b e) (w e) (totals e))
       unfolding convertSteps
       bit-each =
           each-count (bit-parts n)
@@ -168,7 +164,7 @@ module _ {E : Type 0} (P : (E → Step) → Type 0) where
 
     -- ---- a string, and a sample
 
-    pub string-each : (k first : ℕ) (x w : E → ℕ → ℕ) (totals : E → ℕ → ℕ → ℕ)
+    string-each : (k first : ℕ) (x w : E → ℕ → ℕ) (totals : E → ℕ → ℕ → ℕ)
         → ((t : ℕ) → t < k → BitRecords (first + t) (λ e. bitsAt (x e) t) (λ e. after (t * bitWords n) (w e)) (λ e. totals e (suc t)))
         → Each (k * bitCount n) (λ e. stringSteps q n k first (x e) (w e) (totals e))
     unfolding stringSteps

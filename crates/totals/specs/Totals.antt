@@ -7,7 +7,7 @@ use native.Mathlib.Numerals.{add-one}
 use lib.ListN.{length, drop}
 use Rattle.residue.specs.Residue.{add, sub, sum}
 use Rattle.residue.specs.Laws.{reduce-small, add-assoc, zero-add, add-zero, add-lt, neg-zero, neg-add}
-use Rattle.residue.specs.Sum.{sum-cong, reduce-sum, sum-last}
+use Rattle.residue.specs.Sum.{sum-cong, sum-lt, reduce-sum, sum-last}
 use Rattle.buffers.specs.Overwrite.{overwrite}
 use Rattle.buffers.specs.Positions.{at, table, after, Same, Below}
 use Rattle.buffers.specs.PositionLaws.{after-at, drop-after, table-same, front-at, front-values, front-twice}
@@ -43,6 +43,11 @@ module _ (q : ℕ) (pos : 0 < q) where
       → signedSum q true (signedSum q false 0 (stringShare q n k x w i)) (stringShare q n k y (after (k * bitWords n) w) i) ≡ sampleShare q n k x y w i
   unfolding sampleShare
   signed-share n k x y w i = ap (λ (a : ℕ). sub q a (stringShare q n k y (after (k * bitWords n) w) i)) (signed-zero n k x w i)
+
+-- a string's share is below q
+pub stringShare-lt : (q n : ℕ) → 0 < q → (k : ℕ) (x w : ℕ → ℕ) (i : ℕ) → stringShare q n k x w i < q
+unfolding stringShare
+stringShare-lt q n pos k x w i = sum-lt q pos k _
 
 -- the n shares of a string matter, and the words of its k bits
 module _ (q n : ℕ) (large : 2 < q) where
