@@ -74,7 +74,8 @@ fn add_bit_steps(
     position: usize,
 ) -> usize
     requires { ⌜ (t < 16) × (1 ≤ n) × (n ≤ 8) × Modulus q × Drawn q start (bitWords n) (now words) × (n ≤ length (now work)) × Below q n (at (now work)) × Fits (now records) position (bitSteps q bit n (bitsAt (at (now shares)) t) (after start (at (now words))) (withRow q negative (now work) (convertBit q n (bitsAt (at (now shares)) t) (after start (at (now words)))))) ⌝ }
-    ensures { λ r. ⌜ (now (work .exit) ≡ overwrite (now (work .entry)) 0 (table n (withRow q negative (now (work .entry)) (convertBit q n (bitsAt (at (now (shares .entry))) t) (after start (at (now (words .entry)))))))) × Recorded (now (records .entry)) position (bitSteps q bit n (bitsAt (at (now (shares .entry))) t) (after start (at (now (words .entry)))) (withRow q negative (now (work .entry)) (convertBit q n (bitsAt (at (now (shares .entry))) t) (after start (at (now (words .entry))))))) (now (records .exit)) r ⌝ }
+    ensures { λ _. ⌜ now (work .exit) ≡ overwrite (now (work .entry)) 0 (table n (withRow q negative (now (work .entry)) (convertBit q n (bitsAt (at (now (shares .entry))) t) (after start (at (now (words .entry))))))) ⌝ }
+    ensures recorded { λ r. ⌜ Recorded (now (records .entry)) position (bitSteps q bit n (bitsAt (at (now (shares .entry))) t) (after start (at (now (words .entry)))) (withRow q negative (now (work .entry)) (convertBit q n (bitsAt (at (now (shares .entry))) t) (after start (at (now (words .entry))))))) (now (records .exit)) r ⌝ }
 {
     let bits = conversion::bits_at(shares, t);
     let row = convert_bit_steps(&bits, n, q, words, start, bit, records, position);
@@ -98,7 +99,8 @@ fn add_string_steps(
     position: usize,
 ) -> usize
     requires { ⌜ (2 ≤ n) × (n ≤ 8) × (k ≤ 16) × (first ≤ 16) × Modulus q × Drawn q start (k * bitWords n) (now words) × (n ≤ length (now work)) × Below q n (at (now work)) × Fits (now records) position (stringSteps q n k first (at (now shares)) (after start (at (now words))) (totalsOf n q negative (at (now shares)) (after start (at (now words))) (now work))) ⌝ }
-    ensures { λ r. ⌜ (now (work .exit) ≡ overwrite (now (work .entry)) 0 (table n (totalsOf n q negative (at (now (shares .entry))) (after start (at (now (words .entry)))) (now (work .entry)) k))) × Recorded (now (records .entry)) position (stringSteps q n k first (at (now (shares .entry))) (after start (at (now (words .entry)))) (totalsOf n q negative (at (now (shares .entry))) (after start (at (now (words .entry)))) (now (work .entry)))) (now (records .exit)) r ⌝ }
+    ensures { λ _. ⌜ now (work .exit) ≡ overwrite (now (work .entry)) 0 (table n (totalsOf n q negative (at (now (shares .entry))) (after start (at (now (words .entry)))) (now (work .entry)) k)) ⌝ }
+    ensures recorded { λ r. ⌜ Recorded (now (records .entry)) position (stringSteps q n k first (at (now (shares .entry))) (after start (at (now (words .entry)))) (totalsOf n q negative (at (now (shares .entry))) (after start (at (now (words .entry)))) (now (work .entry)))) (now (records .exit)) r ⌝ }
 {
     let mut p = start;
     let mut end = position;
