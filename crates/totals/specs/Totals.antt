@@ -61,7 +61,7 @@ withRow q negative l r i = signedSum q negative (at l i) (r i)
 
 -- the totals after t bits of a string, which were those of l before
 abbrev pub totalsOf : ℕ → ℕ → Bool → (ℕ → ℕ) → (ℕ → ℕ) → List ℕ → ℕ → ℕ → ℕ
-totalsOf n q negative x w l t i = signedSum q negative (at l i) (stringShare q n t x w i)
+totalsOf n q negative x w l t = withRow q negative l (stringShare q n t x w)
 
 module _ (n q : ℕ) (pos : 0 < q) (negative : Bool) (x w : ℕ → ℕ) (l : List ℕ) where
   abbrev totals : ℕ → ℕ → ℕ
@@ -79,12 +79,12 @@ module _ (n q : ℕ) (pos : 0 < q) (negative : Bool) (x w : ℕ → ℕ) (l : Li
     totals-below i h = rw (totals-at i h) (signed-lt q pos negative _ _)
 
     -- with row t in them
-    pub totals-row : (r : ℕ → ℕ) → Same n r (row q n x w t) → Same n (λ i. signedSum q negative (at m i) (r i)) (totals (t + 1))
+    pub totals-row : (r : ℕ → ℕ) → Same n r (row q n x w t) → Same n (withRow q negative m r) (totals (t + 1))
     unfolding stringShare
     totals-row r s i h = ap₂ (signedSum q negative) (totals-at i h) (s i h) ∙ signed-next q pos negative (at l i) t (λ t. row q n x w t i)
 
-    pub totals-next : (u : List ℕ) (r : ℕ → ℕ) → Same n r (row q n x w t) → u ≡ overwrite m 0 (table n (λ i. signedSum q negative (at m i) (r i))) → u ≡ overwrite l 0 (table n (totals (t + 1)))
-    totals-next u r s d = front-twice n (totals t) (λ i. signedSum q negative (at m i) (r i)) l m u e d ∙ ap (overwrite l 0) (table-same n _ _ (totals-row r s))
+    pub totals-next : (u : List ℕ) (r : ℕ → ℕ) → Same n r (row q n x w t) → u ≡ overwrite m 0 (table n (withRow q negative m r)) → u ≡ overwrite l 0 (table n (totals (t + 1)))
+    totals-next u r s d = front-twice n (totals t) (withRow q negative m r) l m u e d ∙ ap (overwrite l 0) (table-same n _ _ (totals-row r s))
 
 -- the totals of both strings, whose words begin at `start` and at `half`, from zeros on: the shares
 pub totals-shares : (n k q start half : ℕ) (x y words work first second : List ℕ) → 0 < q → Same n (at work) (λ i. 0)

@@ -8,13 +8,13 @@ ghost use Rattle.buffers.specs.Overwrite.{overwrite};
 ghost use Rattle.buffers.specs.Positions.{at, table, after, Same, Below};
 ghost use Rattle.conversion.specs.Conversion.{bitWords};
 ghost use Rattle.conversion.specs.Arrays.{Drawn, Modulus};
-ghost use Rattle.totals.specs.Sample.{stringShare, sampleWords, sampleShares};
-ghost use Rattle.totals.specs.Totals.{signedSum};
+ghost use Rattle.totals.specs.Sample.{sampleWords, sampleShares};
+ghost use Rattle.totals.specs.Totals.{withRow, totalsOf};
 
 // A bit's n shares added to the totals or, for a string that counts as negative, taken off. To add a share, q less it is taken off.
 pub fn add_row(row: &[Word; 8], n: usize, q: Word, negative: bool, work: &mut [Word])
     requires { ⌜ (n ≤ 8) × Modulus q × Below q n (at (now row)) × (n ≤ length (now work)) × Below q n (at (now work)) ⌝ }
-    ensures { λ _. ⌜ now (work .exit) ≡ overwrite (now (work .entry)) 0 (table n (λ i. signedSum q negative (at (now (work .entry)) i) (at (now (row .entry)) i))) ⌝ }
+    ensures { λ _. ⌜ now (work .exit) ≡ overwrite (now (work .entry)) 0 (table n (withRow q negative (now (work .entry)) (at (now (row .entry))))) ⌝ }
 {
     let modulus = residue::widen(q);
     for i in 0..n {
@@ -38,7 +38,7 @@ fn add_string(
     work: &mut [Word],
 ) -> usize
     requires { ⌜ (2 ≤ n) × (n ≤ 8) × (k ≤ 16) × Modulus q × Drawn q start (k * bitWords n) (now words) × (n ≤ length (now work)) × Below q n (at (now work)) ⌝ }
-    ensures { λ r. ⌜ (now (work .exit) ≡ overwrite (now (work .entry)) 0 (table n (λ i. signedSum q negative (at (now (work .entry)) i) (stringShare q n k (at (now (shares .entry))) (after start (at (now (words .entry)))) i)))) × (r ≡ start + k * bitWords n) ⌝ }
+    ensures { λ r. ⌜ (now (work .exit) ≡ overwrite (now (work .entry)) 0 (table n (totalsOf n q negative (at (now (shares .entry))) (after start (at (now (words .entry)))) (now (work .entry)) k))) × (r ≡ start + k * bitWords n) ⌝ }
 {
     let mut p = start;
     let mut row: [Word; 8] = [0; 8];
