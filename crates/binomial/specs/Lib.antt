@@ -2,6 +2,8 @@ pub mod Signed
 pub mod Sets
 pub mod Answers
 pub mod Weight
+pub mod Fips204
 pub mod Centring
+pub mod Half
 pub mod SetsFit
 pub mod SetLaws

@@ -2,14 +2,14 @@
 use mathlib.Core.Bool.{cond}
 use mathlib.Core.List.{List, [], _∷_}
 use Prim.Native.Nat.{ℕ, zero, suc, _+_, _*_, _^_}
-use lib.Dec.{ltb}
+use lib.Dec.{leb}
 use lib.IntN.{ℤ, pos, _-ℤ_}
 use Rattle.checks.specs.Width.{bit}
 use Rattle.checks.specs.Checks.{Check, Verdict, verdict, stringLength, modulusAtLeast, below}
 
--- r where 2r is below q, else r - q
+-- r where 2r is at most q, else r - q (document 02, A.9)
 abbrev pub centredValue : ℕ → ℕ → ℤ
-centredValue q r = cond (ltb (2 * r) q) (pos r) (pos r -ℤ pos q)
+centredValue q r = cond (leb (2 * r) q) (pos r) (pos r -ℤ pos q)
 
 abbrev pub centreChecks : ℕ → ℕ → List Check
 centreChecks q r = modulusAtLeast 3 q ∷ below 17 0 q r ∷ []

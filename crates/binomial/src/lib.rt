@@ -45,14 +45,14 @@ fn centred_value(q: Word, r: Word) -> i32
     requires { ⌜ r < q ⌝ }
     ensures { λ z. ⌜ z ≡ centredValue q r ⌝ }
 {
-    if 2 * residue::widen(r) < residue::widen(q) {
+    if 2 * residue::widen(r) <= residue::widen(q) {
         residue::difference(r, 0)
     } else {
         residue::difference(r, q)
     }
 }
 
-// The centred value of a residue: r where 2r is below q, else r - q.
+// The centred value of a residue: r where 2r is at most q, else r - q.
 // Refuses 3 (q below 3), 17.
 pub fn centre(q: Word, opened: OpenedResidue) -> SignedAnswer
     ensures { λ z. ⌜ signedReading z ≡ centred q (opened .0) ⌝ }

@@ -89,9 +89,9 @@ starred =
     -- *f: q 33: residue 16 is 16, residue 17 is −16
     ∷ centre 33 16 gives integer (accepted (pos 16))
     ∷ centre 33 17 gives integer (accepted (minus 16))
-    -- *g: q 8: 3 is 3, 4 is −4
+    -- *g: q 8: 3 is 3, 4 is 4 (document 02, A.9)
     ∷ centre 8 3 gives integer (accepted (pos 3))
-    ∷ centre 8 4 gives integer (accepted (minus 4))
+    ∷ centre 8 4 gives integer (accepted (pos 4))
     -- *h: k 16 with q 32 is refused with 3; q 33 passes
     ∷ sample 2 16 32 (zeros 2) (zeros 2) (zeros 64) (old 3) (old 3) gives leaving (refused 3 0) (old 3) (old 3)
     ∷ sample 2 16 33 (zeros 2) (zeros 2) (zeros 64) (old 3) (old 3) gives leaving (accepted 64) (zeros 2 ++ old 1) (zeros 2 ++ old 1)

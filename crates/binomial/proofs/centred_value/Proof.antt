@@ -2,7 +2,7 @@
 use mathlib.Core.Path.{_∙_}
 use Prim.Native.Nat.{_*_, _≤_, _<_}
 use native.Mathlib.Omega.{arith}
-use borrow.Author.Tests.{lt-ltb, le-ltb}
+use borrow.Author.Tests.{le-leb, lt-leb}
 use Rattle.residue.proofs.Signed.{read-back}
 use Rattle.residue.specs.Integers.{minus-zero}
 use borrow.Author.Needs.{needs}
@@ -27,14 +27,14 @@ difference-requires-2 c κs = search needs
 returns : tie.Need-returns
 returns c =
     let a = c .before .before .before .before .args in
-    let l : 2 * a .r < a .q = omega (arith, c .before .if1 .taken, c .before .before .widen2 .ensures, c .before .before .before .widen .ensures) in
-    read-back (c .difference .result) (c .difference .ok) ∙ c .difference .ensures ∙ minus-zero (a .r) ∙ simp (lt-ltb (2 * a .r) (a .q) l)
+    let l : 2 * a .r ≤ a .q = omega (arith, c .before .if1 .taken, c .before .before .widen2 .ensures, c .before .before .before .widen .ensures) in
+    read-back (c .difference .result) (c .difference .ok) ∙ c .difference .ensures ∙ minus-zero (a .r) ∙ simp (le-leb (2 * a .r) (a .q) l)
 
 returns-2 : tie.Need-returns-2
 returns-2 c =
     let a = c .before .before .before .before .args in
-    let l : a .q ≤ 2 * a .r = omega (arith, c .before .if1 .left, c .before .before .widen2 .ensures, c .before .before .before .widen .ensures) in
-    read-back (c .difference2 .result) (c .difference2 .ok) ∙ c .difference2 .ensures ∙ simp (le-ltb (2 * a .r) (a .q) l)
+    let l : a .q < 2 * a .r = omega (arith, c .before .if1 .left, c .before .before .widen2 .ensures, c .before .before .before .widen .ensures) in
+    read-back (c .difference2 .result) (c .difference2 .ok) ∙ c .difference2 .ensures ∙ simp (lt-leb (2 * a .r) (a .q) l)
 
 pub centred-value-spec : {M : Type 1} → statement M
 centred-value-spec =
