@@ -236,12 +236,12 @@ pub settled-keeps : {A B C : Type 0} (v : Verdict A) (before after : B) (view : 
 settled-keeps (accepted a) before after view e = e
 settled-keeps (refused c p) before after view e = refl
 
--- what an accepted call would write matters only where it is accepted
 -- what two calls with one verdict leave, the one what the other left
 pub settled-twice : {A B C : Type 0} (v : Verdict A) (before after : B) (view : C → B) (s t : C) → view s ≡ before → view t ≡ settled v before after .buffers → view (settled v s t .buffers) ≡ settled v before after .buffers
 settled-twice (accepted a) before after view s t e d = d
 settled-twice (refused c p) before after view s t e d = e
 
+-- what an accepted call would write matters only where it is accepted
 pub settled-same : {A B : Type 0} (v : Verdict A) (before s t : B) → ((a : A) → v ≡ accepted a → s ≡ t) → settled v before s ≡ settled v before t
 settled-same (accepted a) before s t e = ap (settled (accepted a) before) (e a refl)
 settled-same (refused c p) before s t e = refl
