@@ -18,8 +18,8 @@
 #include <stdint.h>
 
 /* MINOR rises with a new call, MAJOR where a call or the meaning of an answer changes. */
-#define TINPLATEAU_VERSION_MAJOR 3
-#define TINPLATEAU_VERSION_MINOR 2
+#define TINPLATEAU_VERSION_MAJOR 4
+#define TINPLATEAU_VERSION_MINOR 0
 
 /* Has the compiler warn where an answer is dropped; gcc does so in C in spite of a cast to void. Defined as nothing (-DTP_NODISCARD=) it is
  * off. */
@@ -194,7 +194,7 @@ tp_opened_string tp_open_string(size_t n, size_t k, const uint16_t *shares, size
 TP_NODISCARD
 tp_opened_residue tp_open_residue(size_t n, uint16_t q, const uint16_t *shares, size_t shares_len);
 
-/* The centred value of a residue r: r where 2r is below q, else r - q.
+/* The centred value of a residue r: r where 2r is at most q, else r - q.
  * Refuses 3 (q below 3); 17 (r not below q). Writes nothing. */
 TP_NODISCARD
 tp_signed tp_centred(uint16_t q, tp_residue r);

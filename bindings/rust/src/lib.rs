@@ -101,7 +101,7 @@ pub fn open_residue(n: usize, q: u16, shares: &[u16]) -> Result<OpenedResidue, R
     judged(answer.code, answer.position, OpenedResidue(answer.opened.value))
 }
 
-/// The centred value of a residue r: r where 2r is below q, else r - q.
+/// The centred value of a residue r: r where 2r is at most q, else r - q.
 ///
 /// Refuses, in this order: `Modulus`, for q below 3; `ResidueRange`.
 pub fn centre(q: u16, r: OpenedResidue) -> Result<i32, Refusal> {

@@ -1,29 +1,19 @@
--- Where document 02's A.9 changed the centred value: exactly at 2r = q, which no sample is. Document 01 took r only where 2r is below q.
+-- Where document 02's A.9 changed the centred value: exactly at 2r = q, and for no sample. Document 01 took r only where 2r is below q.
 use mathlib.Core.Path.{_≡_, sym, ap, subst, _∙_}
 use mathlib.Core.Bool.{Bool, cond}
 use mathlib.Core.Logic.{_≢_}
-use Prim.Native.Nat.{ℕ, zero, suc, _+_, _*_, _-_, _<_, _≤_}
+use Prim.Native.Nat.{ℕ, suc, _+_, _*_, _-_, _<_, _≤_}
 use native.Mathlib.Omega.{arith}
 use native.Mathlib.Decide.{decLe}
 use borrow.Author.Tests.{lt-ltb, le-ltb, le-leb, lt-leb}
 use lib.Dec.{ltb, leb}
-use lib.IntN.{ℤ, pos, negsuc, negℤ, natAbs, _-ℤ_}
+use lib.IntN.{ℤ, pos, negsuc, natAbs, _-ℤ_}
 use Rattle.residue.specs.Residue.{reduceℤ}
 use Rattle.residue.specs.Integers.{minus-below}
 use Rattle.checks.specs.Checks.{Verdict, accepted, verdict}
 use Rattle.checks.specs.Laws.{leb-same, accepts, fail, same-answer}
 use Rattle.binomial.specs.Signed.{centreChecks, centred}
 use Rattle.binomial.specs.Centring.{centred-sample}
-
-minus-twice : (a : ℕ) → 0 < a → pos a -ℤ pos (2 * a) ≡ negℤ (pos a)
-minus-twice zero h = absurd (omega arith)
-minus-twice (suc a) h =
-    let e : 2 * suc a - suc (suc a) ≡ a = omega arith in
-    minus-below (suc a) (2 * suc a) (omega arith) ∙ ap negsuc e
-
-neg-differs : (a : ℕ) → 0 < a → negℤ (pos a) ≢ pos a
-neg-differs zero h e = omega arith
-neg-differs (suc a) h e = let z : _≡_ {A = ℕ} 0 1 = cc in omega arith
 
 module _ (q r : ℕ) where
   -- the call's answer, with the test for r to be its own centred value
@@ -34,7 +24,7 @@ module _ (q r : ℕ) where
   abbrev before : Verdict ℤ
   before = answer (ltb (2 * r) q)
 
-  -- r is the half of a modulus that check 3 lets pass
+  -- the half of a modulus that check 3 lets pass
   abbrev Half : Type 0
   Half = (3 ≤ q) × (2 * r ≡ q)
 
@@ -50,18 +40,22 @@ module _ (q r : ℕ) where
           let l = lt-leb 3 q (omega arith) in
           fail _ _ _ l ∙ sym (fail _ _ _ l)
 
-  half-answer : Half → (test : Bool) → answer test ≡ accepted (cond test (pos r) (pos r -ℤ pos q))
-  half-answer h test = accepts _ (centreChecks q r) (le-leb 3 q (h .0), (lt-ltb r q (omega (arith, h)), tt))
+  module _ (h : Half) where
+    half-answer : (test : Bool) → answer test ≡ accepted (cond test (pos r) (pos r -ℤ pos q))
+    half-answer test = accepts _ (centreChecks q r) (le-leb 3 q (h .0), (lt-ltb r q (omega (arith, h)), tt))
 
-  pub half-before : Half → before ≡ accepted (negℤ (pos r))
-  half-before h = half-answer h (ltb (2 * r) q) ∙ ap accepted (rw (le-ltb (2 * r) q (omega (arith, h)), ← h .1) (minus-twice r (omega (arith, h))))
+    pub half-before : before ≡ accepted (pos r -ℤ pos q)
+    half-before = half-answer (ltb (2 * r) q) ∙ ap accepted (rw (le-ltb (2 * r) q (omega (arith, h))))
 
-  pub half-now : Half → centred q r ≡ accepted (pos r)
-  unfolding centred
-  half-now h = half-answer h (leb (2 * r) q) ∙ ap accepted (rw (le-leb (2 * r) q (omega (arith, h))))
+    pub half-now : centred q r ≡ accepted (pos r)
+    unfolding centred
+    half-now = half-answer (leb (2 * r) q) ∙ ap accepted (rw (le-leb (2 * r) q (omega (arith, h))))
 
-  pub half-differs : Half → before ≢ centred q r
-  half-differs h e = neg-differs r (omega (arith, h)) (same-answer (sym (half-before h) ∙ e ∙ half-now h))
+    pub half-differs : before ≢ centred q r
+    half-differs e =
+        let d : negsuc (q - suc r) ≡ pos r = sym (minus-below r q (omega (arith, h))) ∙ same-answer (sym half-before ∙ e ∙ half-now) in
+        let z : _≡_ {A = ℕ} 0 1 = cc in
+        omega arith
 
 -- for a sample z from -k to k, at any q of at least 2k + 1
 pub sample-same : (k q : ℕ) → 2 * k + 1 ≤ q → 1 ≤ k → (z : ℤ) → natAbs z ≤ k → before q (reduceℤ q z) ≡ centred q (reduceℤ q z)
