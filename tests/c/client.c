@@ -6,6 +6,13 @@ void check_shares(const uint16_t *shares, list expected)
     CHECK(equal(shares, expected.at, expected.len * sizeof *shares));
 }
 
+void check_signed(tp_signed answer, tp_signed expected)
+{
+    CHECK(answer.code == expected.code);
+    CHECK(answer.position == expected.position);
+    CHECK(answer.value == expected.value);
+}
+
 void draw(uint16_t *numbers, size_t count, uint32_t bound)
 {
     for (size_t i = 0; i < count; i++)
@@ -93,6 +100,7 @@ static void run_pass(enum pass next)
 {
     pass = next;
     masking_cases();
+    centring_cases();
     conversion_cases();
     value_cases();
     value_refusals();

@@ -100,10 +100,14 @@ size_t expect_records(const struct sample_case *c, uint8_t records[STEP_BYTES]);
 /* The shares begin with those expected. */
 void check_shares(const uint16_t *shares, list expected);
 
+/* All that is answered is as expected. */
+void check_signed(tp_signed answer, tp_signed expected);
+
 /* Numbers below the bound. */
 void draw(uint16_t *numbers, size_t count, uint32_t bound);
 
 void masking_cases(void);
+void centring_cases(void);
 void conversion_cases(void);
 void value_cases(void);
 void value_refusals(void);

@@ -1,4 +1,4 @@
-/* Masking, opening, centring and weighing, and the published parameter sets. */
+/* Masking, opening and weighing, and the published parameter sets. */
 #include "client.h"
 
 void mask(const struct mask_case *c, size_t spare, uint16_t shares[SHARES])
@@ -135,42 +135,6 @@ static void open_residues(void)
     }
 }
 
-static void check_signed(tp_signed answer, tp_signed expected)
-{
-    CHECK(answer.code == expected.code);
-    CHECK(answer.position == expected.position);
-    CHECK(answer.value == expected.value);
-}
-
-static void centred_values(void)
-{
-    const struct {
-        int line;
-        uint16_t q;
-        tp_residue r;
-        tp_signed answer;
-    } cases[] = {
-        CASE(17, {16}, {0, 0, -1}), /* b */
-        CASE(3, {2}, {0, 0, -1}), /* c */
-        CASE(33, {16}, {0, 0, 16}), /* f */
-        CASE(33, {17}, {0, 0, -16}),
-        CASE(8, {3}, {0, 0, 3}), /* g */
-        CASE(8, {4}, {0, 0, -4}),
-        CASE(3, {0}, {0, 0, 0}),
-        CASE(65535, {32767}, {0, 0, 32767}),
-        CASE(65535, {32768}, {0, 0, -32767}),
-        CASE(65534, {32767}, {0, 0, -32767}),
-        CASE(2, {1}, {3, 0, 0}),
-        CASE(0, {65535}, {3, 0, 0}),
-        CASE(33, {33}, {17, 0, 0}),
-        CASE(3, {65535}, {17, 0, 0}),
-    };
-    for (size_t i = 0; i < COUNT(cases); i++) {
-        BEGIN_CASE(&cases[i]);
-        check_signed(tp_centred(cases[i].q, cases[i].r), cases[i].answer);
-    }
-}
-
 static void weight_differences(void)
 {
     const struct {
@@ -229,7 +193,6 @@ void masking_cases(void)
     mask_refused();
     open_strings();
     open_residues();
-    centred_values();
     weight_differences();
     parameter_sets();
 }

@@ -1,5 +1,5 @@
-//! The calls of document 01, with the starting place, the polynomials and the smaller work area of document 02, written from the pages alone and
-//! sharing no code with the library.
+//! The calls of document 01, with the starting place, the polynomials, the smaller work area and the half of an even modulus of document 02, written
+//! from the pages alone and sharing no code with the library.
 
 /// How a call ends: what it answers, or the documents' number and place.
 pub type Verdict<T> = Result<T, (u64, usize)>;
@@ -127,7 +127,7 @@ pub fn open_residue(n: u64, q: u64, shares: &[u64]) -> Verdict<u64> {
 pub fn centre(q: u64, r: u64) -> Verdict<i64> {
     ask(q >= 3, 3, 0)?;
     ask(r < q, 17, 0)?;
-    Ok(if 2 * r < q { r as i64 } else { r as i64 - q as i64 })
+    Ok(if 2 * r <= q { r as i64 } else { r as i64 - q as i64 })
 }
 
 fn weight(word: u64) -> i64 {

@@ -2,6 +2,7 @@
 
 use crate::call::{text_room, Call, Function};
 use crate::calls::{bit_words, parameter_set, words_needed};
+use crate::centred;
 use crate::draw::{modulus, random_words, shares, too_high, too_wide, unjudged_word, Dice};
 use crate::lesson::MOST_WORDS;
 use crate::noise;
@@ -76,12 +77,6 @@ fn string(dice: &mut Dice, k: u64) -> u64 {
     shares(dice, 1, k)[0]
 }
 
-/// A residue, often about the middle or at an end.
-fn residue(dice: &mut Dice, q: u64) -> u64 {
-    let any = dice.below(q);
-    dice.pick(&[0, q - 1, q / 2, (q - 1) / 2, q / 2 - 1, any, any, any])
-}
-
 /// The file of a number, and buffers for its words and its text; and how many elements of each are needed.
 fn lesson_lists(dice: &mut Dice, seed: u64, turn: usize, text: Text) -> (Vec<Vec<u64>>, Vec<u64>) {
     let file = text.made_file(seed, turn).1;
@@ -111,7 +106,7 @@ pub fn good(dice: &mut Dice, seed: u64, turn: usize, function: Function, [n, k, 
         }
         Function::OpenString => (vec![n, k], vec![shares(dice, n, k)], vec![n]),
         Function::OpenResidue => (vec![n, q], vec![random_words(dice, q, n)], vec![n]),
-        Function::Centred => (vec![q, residue(dice, q)], vec![], vec![]),
+        Function::Centred => centred::drawn(dice, q),
         Function::WeightDifference => (vec![k, string(dice, k), string(dice, k)], vec![], vec![]),
         Function::ParameterSet => (vec![dice.between(1, 7)], vec![], vec![]),
         Function::ConvertBit => {

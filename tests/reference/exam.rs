@@ -1,8 +1,8 @@
-//! The exam's sheet: every line worked out again, and the reference values of document 01 looked up on it.
+//! The exam's sheet: every line worked out again, and the reference values of documents 01 and 02 looked up on it.
 
 use crate::calls::{adds_up, centre, mask, open_residue, open_string, parameter_set, sample, weight_difference, Verdict};
 
-/// What the page says of a reference value: its letter, the inputs that it names, and the answer as far as it is told.
+/// What the pages say of a reference value: its letter, the inputs that it names, and the answer as far as it is told.
 struct Value {
     letter: &'static str,
     inputs: &'static str,
@@ -13,7 +13,7 @@ const fn value(letter: &'static str, inputs: &'static str, answer: &'static str)
     Value { letter, inputs, answer }
 }
 
-/// Document 01, 'The exam's reference values'.
+/// Document 01, 'The exam's reference values'. Document 02 replaces that of q 8 and residue 4.
 const VALUES: [Value; 19] = [
     value("a", "sample n 2 k 1 q 17 x 1 0 y 1 1 words 5 3 10 16", "shares 7 11"),
     value("b", "sample n 2 k 1 q 17 x 0 0 y 0 1 words 5 3 10 14", "shares 7 9 centred -1"),
@@ -23,7 +23,7 @@ const VALUES: [Value; 19] = [
     value("f", "centre q 33 residue 16", "gives 16"),
     value("f", "centre q 33 residue 17", "gives -16"),
     value("g", "centre q 8 residue 3", "gives 3"),
-    value("g", "centre q 8 residue 4", "gives -4"),
+    value("g", "centre q 8 residue 4", "gives 4"),
     value("h", "sample k 16 q 32", "refused 3 0"),
     value("h", "sample k 16 q 33", "gives"),
     value("i", "sample n 2 k 1 q 17 x 1 0 y 1 1 words 5 3 17 16", "refused 9 2"),
@@ -171,8 +171,8 @@ fn expected(line: &Line) -> String {
     format!("{letter} {call}{rest}")
 }
 
-/// What the sheet lacks of the page, and what it says against it.
-fn against_page(lines: &[Line]) -> Vec<String> {
+/// What the sheet lacks of the pages, and what it says against them.
+fn against_pages(lines: &[Line]) -> Vec<String> {
     let mut faults = Vec::new();
     for value in &VALUES {
         let name = format!("value {}, {}", value.letter, value.inputs);
@@ -181,7 +181,7 @@ fn against_page(lines: &[Line]) -> Vec<String> {
             faults.push(format!("{name}: not on the sheet"));
         }
         if !shown.iter().all(|line| line.has(&Line::read(value.answer))) {
-            faults.push(format!("{name}: the page says {}", value.answer));
+            faults.push(format!("{name}: the pages say {}", value.answer));
         }
     }
     for set in FIPS_203_SETS {
@@ -190,16 +190,16 @@ fn against_page(lines: &[Line]) -> Vec<String> {
         }
     }
     let stray = lines.iter().filter(|line| line.word(0) != "fips203" && !VALUES.iter().any(|value| line.shows_inputs_of(value)));
-    faults.extend(stray.map(|line| format!("{} {}: not a value of the page", line.word(0), line.word(1))));
+    faults.extend(stray.map(|line| format!("{} {}: not a value of the pages", line.word(0), line.word(1))));
     faults
 }
 
-/// Takes each line's call and inputs, works out the answer and compares the whole line; then compares the sheet with the page.
+/// Takes each line's call and inputs, works out the answer and compares the whole line; then compares the sheet with the pages.
 pub fn is_right(file: &str) -> bool {
     let text = std::fs::read_to_string(file).unwrap_or_else(|error| panic!("{file}: {error}"));
     assert!(text.ends_with('\n'), "the last line has no line feed");
     let lines: Vec<Line> = text.lines().map(Line::read).collect();
-    let mut faults = against_page(&lines);
+    let mut faults = against_pages(&lines);
     for (number, (found, line)) in text.lines().zip(&lines).enumerate() {
         let want = expected(line);
         if found != want {
@@ -209,6 +209,6 @@ pub fn is_right(file: &str) -> bool {
     for fault in &faults {
         eprintln!("{fault}");
     }
-    println!("exam: {} lines, {} values of the page, {} faults", lines.len(), VALUES.len(), faults.len());
+    println!("exam: {} lines, {} values of the pages, {} faults", lines.len(), VALUES.len(), faults.len());
     faults.is_empty()
 }

@@ -1,11 +1,13 @@
 //! The library, called through its C interface and through the Rust bindings, compared with the second reading of the documents that this
 //! folder holds.
 //!
-//! `library SEED COUNT` compares so many calls made from the seed and step records worked out by hand, makes the noise of ML-KEM keys, and counts
-//! the secrecy rule through the library.
+//! `library SEED COUNT` compares so many calls made from the seed, step records worked out by hand, and residues as FIPS 204 shows them, makes the
+//! noise of ML-KEM keys, and counts the secrecy rule through the library.
 
 mod call;
 mod calls;
+mod centred;
+mod centred_held;
 mod draft;
 mod draw;
 mod files;
@@ -41,6 +43,7 @@ mod way;
 mod work;
 
 use call::{bytes, Call, Function, Outcome};
+use centred_held::Shown;
 use draw::Dice;
 use found::Layer;
 use key::Keys;
@@ -77,14 +80,15 @@ struct Comparison {
     keys: Keys,
     values: Relations,
     steps: Held,
+    shown: Shown,
 }
 
 impl Comparison {
     fn new(seed: u64) -> Comparison {
         let (through_c, through_slices) = (Met::default(), Met::default());
         let (lessons, reports, ways, keys) = (Tally::new(Text::Lesson), Tally::new(Text::Report), Ways::default(), Keys::default());
-        let (values, steps) = (Relations::new(), Held::new());
-        Comparison { seed, compared: 0, differences: 0, through_c, through_slices, lessons, reports, walks: 0, ways, keys, values, steps }
+        let (values, steps, shown) = (Relations::new(), Held::new(), Shown::new());
+        Comparison { seed, compared: 0, differences: 0, through_c, through_slices, lessons, reports, walks: 0, ways, keys, values, steps, shown }
     }
 
     fn differs(&mut self, call: &Call, text: &str) {
@@ -129,6 +133,7 @@ impl Comparison {
         let difference = self.value(Function::WeightDifference, &[k, strings[0], strings[1]], &[]);
         let residue = self.value(Function::OpenResidue, &[n, q], &[shares]) as u64;
         let centred = self.value(Function::Centred, &[q, residue], &[]);
+        self.keep_off_half(call, q, residue);
         if !calls::adds_up(q, [x, y], shares) || centred != difference {
             self.differs(call, &format!("  the shares {shares:?} open to {centred}, not to {difference}"));
         }
@@ -197,7 +202,7 @@ impl Comparison {
     fn print(&self, made: usize) -> usize {
         println!("library: {made} calls made, {} compared with those that follow from them", self.compared);
         println!("  {} walks through one list of words, by calls that hand the position on", self.walks);
-        let relations = self.ways.print() + self.values.print() + self.steps.print();
+        let relations = self.ways.print() + self.values.print() + self.steps.print() + self.shown.print();
         let calls = self.through_c.print("the C functions") + self.through_slices.print("the Rust bindings");
         let gaps = relations + calls + self.lessons.print() + self.reports.print();
         self.keys.print();
@@ -222,6 +227,8 @@ fn agrees(seed: u64, count: usize) -> bool {
     let mut comparison = Comparison::new(seed);
     comparison.compare_by_hand();
     comparison.compare_largest();
+    comparison.compare_residues();
+    comparison.compare_halves();
     for number in 0..count {
         comparison.take(&inputs::made(seed, number));
         if number % CALLS_TO_A_WALK == 0 {

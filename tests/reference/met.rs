@@ -2,7 +2,7 @@
 
 use crate::call::{Answer, Call, Form, Function, FUNCTIONS};
 use crate::kinds::{print_gaps, Kinds};
-use crate::{polynomial, splits, start, steps_met, value_met, work};
+use crate::{centred, polynomial, splits, start, steps_met, value_met, work};
 use std::collections::{BTreeMap, BTreeSet};
 
 /// A kind of call that is met less often says too little.
@@ -22,6 +22,7 @@ struct Counts {
 /// What else the calls of a function are to meet.
 fn kinds_to_meet(function: Function) -> Vec<String> {
     match function {
+        Function::Centred => centred::to_meet(),
         Function::ConvertBit => start::to_meet(function),
         Function::ConvertValue => value_met::to_meet(),
         Function::Sample => [start::to_meet(function), work::to_meet(function)].concat(),
@@ -35,6 +36,7 @@ fn kinds_to_meet(function: Function) -> Vec<String> {
 /// What one call meets of that.
 fn kinds_met(call: &Call, answer: Answer) -> Vec<String> {
     match call.function {
+        Function::Centred => centred::met(call, answer),
         Function::ConvertBit => start::met(call, answer),
         Function::ConvertValue => value_met::met(call, answer),
         Function::Sample => [start::met(call, answer), work::met(call, answer)].concat(),

@@ -58,7 +58,7 @@ const BITS: [&str; 9] = [
     "a k with which the words needed wrap to those lent",
 ];
 
-const SMALL: [&str; 3] = ["q 0", "q 1", "q 2"];
+pub const SMALL: [&str; 3] = ["q 0", "q 1", "q 2"];
 
 pub const LENGTHS: [&str; 5] =
     ["one share too few", "one share too many", "no shares", "ten shares too many or more", "shares whose number's low 16 bits are n"];
@@ -84,7 +84,7 @@ pub const ROOMS: [&str; 2] = ["one place too few", "no places"];
 /// The numbers in the order of the checks.
 const ORDER: [u64; 8] = [1, 2, 3, 4, 6, 8, 9, 10];
 
-fn of_modulus(q: u64) -> String {
+pub fn of_modulus(q: u64) -> String {
     format!("q {q}")
 }
 
