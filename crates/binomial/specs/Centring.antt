@@ -5,9 +5,9 @@ use native.Mathlib.Omega.{arith}
 use native.Mathlib.Decide.{decLe}
 use borrow.Author.Tests.{ltb-true, lt-ltb, le-leb, lt-leb}
 use lib.IntN.{ℤ, pos, negsuc, natAbs}
-use Rattle.residue.specs.Residue.{neg, reduceℤ}
-use Rattle.residue.specs.Laws.{reduce-small, reduce-lt, reduce-neg, neg-small}
-use Rattle.residue.specs.Integers.{minus-below}
+use Rattle.residue.specs.Residue.{reduce, reduceℤ}
+use Rattle.residue.specs.Laws.{reduce-small, neg-small, sub-plus}
+use Rattle.residue.specs.Integers.{minus-below, reduceℤ-lt, reduceℤ-minus}
 use Rattle.checks.specs.Checks.{accepted}
 use Rattle.checks.specs.Laws.{accepts, accepted-holds, accepted-answer}
 use Rattle.binomial.specs.Signed.{centredValue, centreChecks, centred}
@@ -23,8 +23,8 @@ module _ (q : ℕ) where
       go (yes h) = rw (le-leb (2 * r) q h) (omega arith, refl)
       go (no h) =
           let d : q < 2 * r = omega arith in
-          let e : q - suc (q - suc r) ≡ r = omega arith in
-          rw (lt-leb (2 * r) q d, minus-below r q l) (omega arith, neg-small q (suc (q - suc r)) (omega arith) (omega arith) ∙ e ∙ sym (reduce-small q l))
+          let e : r + (q - q) ≡ r = omega arith in
+          rw (lt-leb (2 * r) q d) (rw (minus-below r q l) (omega arith), reduceℤ-minus q (omega arith) r q ∙ sub-plus q r q (omega arith) ∙ ap (reduce q) e)
 
   -- each integer of the range is the centred value of its residue
   range-value : 0 < q → (z : ℤ) → InRange q z → centredValue q (reduceℤ q z) ≡ z
@@ -38,25 +38,18 @@ module _ (q : ℕ) where
       let e : q - suc (q - suc a) ≡ a = omega arith in
       rw (neg-small q (suc a) (omega arith) (omega arith), lt-leb (2 * (q - suc a)) q t) (minus-below (q - suc a) q (omega arith) ∙ ap negsuc e)
 
-  reduced : 0 < q → (z : ℤ) → reduceℤ q z < q
-  unfolding reduceℤ
-  reduced p (pos a) = reduce-lt q p a
-  reduced p (negsuc a) = rw (← reduce-neg q (suc a)) (reduce-lt q p (neg q (suc a)))
-
-  -- what is answered for a residue r is r mod± q
+  -- an accepted call answers z exactly where z is r mod± q
   pub centred-mod : (r : ℕ) (z : ℤ) → centred q r ≡ accepted z → ModPlusMinus q (pos r) z
   unfolding centred
   centred-mod r z e =
       let h = accepted-holds (centredValue q r) z (centreChecks q r) e in
       rw (accepted-answer (centredValue q r) z (centreChecks q r) e) (value-mod r (ltb-true r q (h .1 .0)))
 
-  -- and for the residue of an integer m, what is m mod± q is answered
-  pub mod-centred : 3 ≤ q → (m z : ℤ) → ModPlusMinus q m z → centred q (reduceℤ q m) ≡ accepted z
-  unfolding centred
-  mod-centred p m z h =
-      let s : 0 < q = omega arith in
-      rw (← h .1)
-      (accepts (centredValue q (reduceℤ q z)) (centreChecks q (reduceℤ q z)) (le-leb 3 q p, (lt-ltb (reduceℤ q z) q (reduced s z), tt)) ∙ ap accepted (range-value s z (h .0)))
+  pub mod-centred : 3 ≤ q → (r : ℕ) → r < q → (z : ℤ) → ModPlusMinus q (pos r) z → centred q r ≡ accepted z
+  unfolding centred reduceℤ
+  mod-centred p r l z h =
+      let e : reduceℤ q z ≡ r = h .1 ∙ reduce-small q l in
+      accepts (centredValue q r) (centreChecks q r) (le-leb 3 q p, (lt-ltb r q l, tt)) ∙ ap accepted (ap (centredValue q) (sym e) ∙ range-value (omega arith) z (h .0))
 
 module _ (k q : ℕ) (h : 2 * k + 1 ≤ q) where
   sample-range : (z : ℤ) → natAbs z ≤ k → InRange q z
@@ -68,4 +61,7 @@ module _ (k q : ℕ) (h : 2 * k + 1 ≤ q) where
   centred-value z l = range-value q (omega arith) z (sample-range z l)
 
   pub centred-sample : 1 ≤ k → (z : ℤ) → natAbs z ≤ k → centred q (reduceℤ q z) ≡ accepted z
-  centred-sample p z l = mod-centred q (omega arith) z z (sample-range z l, refl)
+  unfolding reduceℤ
+  centred-sample p z l =
+      let s = reduceℤ-lt q (omega arith) z in
+      mod-centred q (omega arith) (reduceℤ q z) s z (sample-range z l, sym (reduce-small q s))

@@ -1,4 +1,4 @@
--- FIPS 204: m mod± α, of a positive integer α, is the one integer z from above -⌈α/2⌉ to ⌊α/2⌋ that is congruent to m modulo α.
+-- FIPS 204: m mod± α, for a positive integer α, is the one integer of this range that is congruent to m modulo α.
 use mathlib.Core.Path.{_≡_}
 use Prim.Native.Nat.{ℕ, suc, _+_, _/_, _<_, _≤_}
 use lib.IntN.{ℤ, pos, negsuc}

@@ -1,13 +1,13 @@
--- Where document 02's A.9 changed the centred value: exactly at 2r = q, and for no sample. Document 01 took r only where 2r is below q.
+-- Where document 02's A.9 changed what is answered for a residue: exactly at 2r = q, and for no sample.
 use mathlib.Core.Path.{_≡_, sym, ap, subst, _∙_}
 use mathlib.Core.Bool.{Bool, cond}
 use mathlib.Core.Logic.{_≢_}
-use Prim.Native.Nat.{ℕ, suc, _+_, _*_, _-_, _<_, _≤_}
+use Prim.Native.Nat.{ℕ, suc, _+_, _*_, _-_, _≤_}
 use native.Mathlib.Omega.{arith}
 use native.Mathlib.Decide.{decLe}
 use borrow.Author.Tests.{lt-ltb, le-ltb, le-leb, lt-leb}
-use lib.Dec.{ltb, leb}
-use lib.IntN.{ℤ, pos, negsuc, natAbs, _-ℤ_}
+use lib.Dec.{ltb}
+use lib.IntN.{ℤ, pos, natAbs, _-ℤ_, pos-ne-negsuc}
 use Rattle.residue.specs.Residue.{reduceℤ}
 use Rattle.residue.specs.Integers.{minus-below}
 use Rattle.checks.specs.Checks.{Verdict, accepted, verdict}
@@ -16,13 +16,9 @@ use Rattle.binomial.specs.Signed.{centreChecks, centred}
 use Rattle.binomial.specs.Centring.{centred-sample}
 
 module _ (q r : ℕ) where
-  -- the call's answer, with the test for r to be its own centred value
-  abbrev answer : Bool → Verdict ℤ
-  answer test = verdict (centreChecks q r) (cond test (pos r) (pos r -ℤ pos q))
-
-  -- by document 01's test
+  -- document 01's answer: r where 2r is below q, else r - q
   abbrev before : Verdict ℤ
-  before = answer (ltb (2 * r) q)
+  before = verdict (centreChecks q r) (cond (ltb (2 * r) q) (pos r) (pos r -ℤ pos q))
 
   -- the half of a modulus that check 3 lets pass
   abbrev Half : Type 0
@@ -32,30 +28,27 @@ module _ (q r : ℕ) where
   unfolding centred
   same-elsewhere n = go (decLe 3 q)
     where
-      go : Dec (3 ≤ q) → before ≡ answer (leb (2 * r) q)
+      go : Dec (3 ≤ q) → before ≡ centred q r
       go (yes h) =
           let m : 2 * r ≡ q → ⊥ = λ e. n (h, e) in
-          ap answer (leb-same (suc (2 * r)) q (2 * r) q (λ l. omega arith) (λ l. omega arith))
+          ap (λ (t : Bool). verdict (centreChecks q r) (cond t (pos r) (pos r -ℤ pos q))) (leb-same (suc (2 * r)) q (2 * r) q (λ l. omega arith) (λ l. omega arith))
       go (no h) =
           let l = lt-leb 3 q (omega arith) in
           fail _ _ _ l ∙ sym (fail _ _ _ l)
 
   module _ (h : Half) where
-    half-answer : (test : Bool) → answer test ≡ accepted (cond test (pos r) (pos r -ℤ pos q))
-    half-answer test = accepts _ (centreChecks q r) (le-leb 3 q (h .0), (lt-ltb r q (omega (arith, h)), tt))
+    half-answer : (z : ℤ) → verdict (centreChecks q r) z ≡ accepted z
+    half-answer z = accepts z (centreChecks q r) (le-leb 3 q (h .0), (lt-ltb r q (omega (arith, h)), tt))
 
     pub half-before : before ≡ accepted (pos r -ℤ pos q)
-    half-before = half-answer (ltb (2 * r) q) ∙ ap accepted (rw (le-ltb (2 * r) q (omega (arith, h))))
+    half-before = half-answer _ ∙ ap accepted (rw (le-ltb (2 * r) q (omega (arith, h))))
 
     pub half-now : centred q r ≡ accepted (pos r)
     unfolding centred
-    half-now = half-answer (leb (2 * r) q) ∙ ap accepted (rw (le-leb (2 * r) q (omega (arith, h))))
+    half-now = half-answer _ ∙ ap accepted (rw (le-leb (2 * r) q (omega (arith, h))))
 
     pub half-differs : before ≢ centred q r
-    half-differs e =
-        let d : negsuc (q - suc r) ≡ pos r = sym (minus-below r q (omega (arith, h))) ∙ same-answer (sym half-before ∙ e ∙ half-now) in
-        let z : _≡_ {A = ℕ} 0 1 = cc in
-        omega arith
+    half-differs e = pos-ne-negsuc r (q - suc r) (same-answer (sym half-now ∙ sym e ∙ half-before) ∙ minus-below r q (omega (arith, h)))
 
 -- for a sample z from -k to k, at any q of at least 2k + 1
 pub sample-same : (k q : ℕ) → 2 * k + 1 ≤ q → 1 ≤ k → (z : ℤ) → natAbs z ≤ k → before q (reduceℤ q z) ≡ centred q (reduceℤ q z)

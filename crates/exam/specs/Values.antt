@@ -1,4 +1,4 @@
--- The exam's reference values (document 01): those with a star form one list, and one theorem shows by computation that all of them follow
+-- The exam's reference values (documents 01 and 02): those with a star form one list, and one theorem shows by computation that all of them follow
 -- from the definitions that the contracts cite.
 use mathlib.Core.Path.{_≡_, refl}
 use mathlib.Core.List.{List, [], _∷_, _++_, map}
@@ -37,7 +37,7 @@ resultOf (mask n k value masks out) = output (masked n k value masks out)
 resultOf (openResidue n q shares) = residue (openedResidue n q shares)
 resultOf (centre q r) = integer (centred q r)
 
--- a call, and what the page gives for it, with what follows for the rest of the outcome
+-- a call, and what the papers give for it, with what follows for the rest of the outcome
 pub record Value : Type 0 where
   pub call : Call
   pub given : Result

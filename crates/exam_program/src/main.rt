@@ -1,4 +1,4 @@
-// The exam sheet: every reference value of document 01, and the distribution of the sample for the parameter sets of FIPS 203, as the library
+// The exam sheet: every reference value of documents 01 and 02, and the distribution of the sample for the parameter sets of FIPS 203, as the library
 // gives them.
 mod calls;
 mod fips203;

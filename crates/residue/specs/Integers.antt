@@ -7,7 +7,7 @@ use native.Mathlib.Decide.{decLe}
 use borrow.Author.Tests.{lt-ltb, le-ltb}
 use lib.IntN.{ℤ, pos, negsuc, natAbs, sucℤ, predℤ, negℤ, _+ℤ_, _-ℤ_, _*ℤ_, +ℤ-assoc, +ℤ-comm, +ℤ-predℤ, sucℤ-+ℤ, negℤ-+ℤ, negℤ-sucℤ, zero-*ℤ, sucℤ-*ℤ}
 use Rattle.residue.specs.Residue.{reduce, neg, sub, reduceℤ}
-use Rattle.residue.specs.Laws.{reduce-plus, reduce-neg, add-reduce-left, neg-reduce, add-assoc, zero-add, add-neg, neg-add, add-sub-cancel}
+use Rattle.residue.specs.Laws.{reduce-plus, reduce-neg, reduce-lt, add-reduce-left, neg-reduce, add-assoc, zero-add, add-neg, neg-add, add-sub-cancel}
 
 pub minus-zero : (a : ℕ) → pos a -ℤ pos 0 ≡ pos a
 minus-zero a = ap pos (N.add-zero a)
@@ -63,7 +63,12 @@ natAbs-plus (pos a) (negsuc b) = natAbs-minus a (suc b)
 natAbs-plus (negsuc a) (pos b) = omega (arith, natAbs-minus b (suc a))
 natAbs-plus (negsuc a) (negsuc b) = omega arith
 
--- ---- the difference of two numbers, modulo q
+-- ---- integers modulo q, and the difference of two numbers
+
+pub reduceℤ-lt : (q : ℕ) → 0 < q → (z : ℤ) → reduceℤ q z < q
+unfolding reduceℤ
+reduceℤ-lt q h (pos a) = reduce-lt q h a
+reduceℤ-lt q h (negsuc a) = rw (← reduce-neg q (suc a)) (reduce-lt q h (neg q (suc a)))
 
 pub reduceℤ-minus : (q : ℕ) → 0 < q → (a b : ℕ) → reduceℤ q (pos a -ℤ pos b) ≡ sub q a b
 unfolding reduceℤ
