@@ -1,5 +1,5 @@
--- The exam's reference values (documents 01 and 02): those with a star form one list, and one theorem shows by computation that all of them follow
--- from the definitions that the contracts cite.
+-- The exam's reference values (documents 01 and 02): those with a star form one list, and one theorem shows by computation that all of them
+-- follow from the definitions that the contracts cite.
 use mathlib.Core.Path.{_≡_, refl}
 use mathlib.Core.List.{List, [], _∷_, _++_, map}
 use Prim.Native.Nat.{ℕ}
