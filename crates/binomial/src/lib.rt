@@ -1,5 +1,7 @@
 // The binomial sample unmasked, which is the weight difference of two opened strings; the centred value of an opened residue; the published
 // parameter sets.
+#![tactic(auto)]
+
 ghost use Rattle.std.specs.Prelude.{◌≡◌, ◌<◌};
 ghost use Rattle.checks.specs.Checks.{checked};
 ghost use Rattle.checks.specs.Answers.{checked_reading};

@@ -19,7 +19,7 @@ pub block-fits : {t m : ℕ} (c : ℕ) → t < m → t * c + c ≤ m * c
 block-fits {t} {m} c h = N.le_trans (N.le_of_eq (sym (N.suc-mul t c))) (N.mul-le-mul_right c h)
 
 drop-take : (d n : ℕ) (l : List ℕ) → drop d (take (d + n) l) ≡ take n (drop d l)
-drop-take zero n l = ap (λ (j : ℕ). take j l) (N.zero_add n)
+drop-take zero n l = ap (λ (j : ℕ). take j l) (N.zero-add n)
 drop-take (suc d) n [] = rw (N.suc-add d n) (sym (take-nil n))
 drop-take (suc d) n (a ∷ l) = rw (N.suc-add d n) (drop-take d n l)
 

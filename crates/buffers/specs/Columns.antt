@@ -41,7 +41,7 @@ module _ (p f : ℕ → ℕ) (l : List ℕ) where
   -- b more
   pub stored_more : (a b : ℕ) (p' f' : ℕ → ℕ) (s : List ℕ) → s ≡ stored p f a l → ((c : ℕ) → c < b → p' c ≡ p (a + c)) → ((c : ℕ) → c < b → f' c ≡ f (a + c)) → stored p' f' b s ≡ stored p f (a + b) l
   unfolding stored
-  stored_more a zero p' f' s e i v = e ∙ ap (λ (m : ℕ). stored p f m l) (sym (N.add_zero a))
+  stored_more a zero p' f' s e i v = e ∙ ap (λ (m : ℕ). stored p f m l) (sym (N.add-zero a))
   stored_more a (suc b) p' f' s e i v =
       rw (i b (omega arith), v b (omega arith), stored_more a b p' f' s e (λ c h. i c (omega arith)) (λ c h. v c (omega arith)), N.add-suc a b)
 
@@ -95,7 +95,7 @@ module _ (m n : ℕ) (f : ℕ → ℕ → ℕ) (l : List ℕ) where
       where
         go : Dec (i < m * n) → at l i ≡ at (overwrite l 0 (rows m n f)) i
         go (yes a) =
-            let p : 0 < n = N.pos_of_ne-zero (λ e. not-suc-le-zero (rw (e, N.mul_zero m) at a)) in
+            let p : 0 < n = N.pos_of_ne-zero (λ e. not-suc-le-zero (rw (e, N.mul-zero m) at a)) in
             absurd (o (i / n) (i % n) ((N.div-lt_iff_lt-mul p).1 a) (omega arith) (N.mod-lt i p) (sym (N.div-add-mod' i n)))
         go (no a) = kept i (omega arith)
     columns-agree (suc j) b i o =

@@ -68,7 +68,7 @@ overwrite-append l start s r = go (dec_le start (length l))
 
 pub front : (l s : List ℕ) → overwrite l 0 s ≡ s ++ drop (length s) l
 unfolding overwrite
-front l s = ap (λ (k : ℕ). s ++ drop k l) (N.zero_add (length s))
+front l s = ap (λ (k : ℕ). s ++ drop k l) (N.zero-add (length s))
 
 module _ (l s : List ℕ) where
   pub take-front : (n : ℕ) → length s ≡ n → take n (overwrite l 0 s) ≡ s

@@ -13,7 +13,7 @@ use Rattle.buffers.specs.Laws.{length-overwrite, front_below, front_from, front_
 use Rattle.buffers.specs.Positions.{at, table, after, join, Same, Below}
 
 pub after_zero : (f : ℕ → ℕ) → after 0 f ≡ f
-after_zero f = fun_ext (λ i. ap f (N.zero_add i))
+after_zero f = fun_ext (λ i. ap f (N.zero-add i))
 
 pub after-after : (m n : ℕ) (f : ℕ → ℕ) → after n (after m f) ≡ after (m + n) f
 after-after m n f = fun_ext (λ i. ap f (omega arith))

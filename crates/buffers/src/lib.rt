@@ -1,4 +1,6 @@
 // Writing a part of a list. What lies before and behind the part keeps its content.
+#![tactic(auto)]
+
 ghost use Rattle.std.specs.Prelude.{◌≡◌, ◌+◌, ◌≤◌, length, replicate, take};
 ghost use Rattle.buffers.specs.Overwrite.{overwrite};
 

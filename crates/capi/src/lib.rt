@@ -1,4 +1,6 @@
 // The calls for C, as include/tinplateau.h declares them. A slice is a pointer and a length there.
+#![tactic(auto)]
+
 ghost use Rattle.std.specs.Prelude.{◌≡◌};
 ghost use Rattle.checks.specs.Answers.{answer_reading};
 ghost use Rattle.masking.specs.Sharing.{masked, opened_string, opened_residue};

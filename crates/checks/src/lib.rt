@@ -1,4 +1,6 @@
 // Why a call is refused, and the tests that several calls share.
+#![tactic(auto)]
+
 ghost use Rattle.std.specs.Prelude.{◌≡◌, ◌+◌, ◌*◌, ◌^◌, ◌≤◌, leb, ltb, length, take, drop};
 ghost use Rattle.checks.specs.Search.{first_from, first_not_below};
 ghost use Rattle.checks.specs.Checks.{refused, checked, within, parameter_checks, share_checks, word_checks, output_checks, buffer_checks};

@@ -95,7 +95,7 @@ module _ (q : ℕ) (w : ℕ → ℕ) where
     pub kept : (t : ℕ) → j ≤ t → at a t ≡ at b t
 
   front_lt : (n i : ℕ) (b : List ℕ) → Below q (n - i) (after i (at b)) → i < n → at b i < q
-  front_lt n i b below h = rw N.add_zero at (below 0 (omega arith))
+  front_lt n i b below h = rw N.add-zero at (below 0 (omega arith))
 
   module _ (n i o : ℕ) (b : List ℕ) (eight : length b ≡ 8) (below : Below q (n - i) (after i (at b))) (h : i < n) where
     pub paired_none : Paired i o b (i + 1) o b (at b i)
@@ -150,10 +150,10 @@ module _ (q : ℕ) (w : ℕ → ℕ) where
   pub remaining_all : (n : ℕ) (T : ℕ → ℕ) (p : ℕ) (a : List ℕ) → length a ≡ 8 → Below q n (at a) → Same n T (refresh q n (after p w) (at a)) → Remaining n T 0 p a
   remaining_all n T p a e b h =
       let z : n - 0 ≡ n = omega arith in
-      record { eight = e; below = λ t l. rw (N.zero_add t) (b t (omega arith)); wanted = λ t l. all t (omega arith) ∙ rw (z, N.zero_add t) }
+      record { eight = e; below = λ t l. rw (N.zero-add t) (b t (omega arith)); wanted = λ t l. all t (omega arith) ∙ rw (z, N.zero-add t) }
     where
       all : (t : ℕ) → t < n → T (0 + t) ≡ add q (at a t) (zero_sharing q n (after p w) t)
-      all t l = ap T (N.zero_add t) ∙ h t l ∙ refresh_adds q n (after p w) (at a) (λ s m. reduce-small q (b s m)) t l
+      all t l = ap T (N.zero-add t) ∙ h t l ∙ refresh_adds q n (after p w) (at a) (λ s m. reduce-small q (b s m)) t l
 
   module _ (n : ℕ) (T : ℕ → ℕ) (i o : ℕ) (b : List ℕ) (L : Remaining n T i o b) (h : i < n) (p : ℕ) (a : List ℕ) (eight : length a ≡ 8)
       (R : Same (n - i) (after i (at a)) (after i (refresh_share q i (i + 1) (n - (i + 1)) (after o w) (at b)))) (k : p ≡ o + (n - (i + 1))) where

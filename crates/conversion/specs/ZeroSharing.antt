@@ -79,7 +79,7 @@ module _ (q : ℕ) where
   unfolding refresh_share
   refresh_share_loses i m zero w A t h l = absurd (not-suc-le-zero l)
   refresh_share_loses i m (suc c) w A zero h l =
-      rw N.add_zero (refresh_share_keeps i (suc m) c (λ j. w (suc j)) (transfer q i m (w 0) A) m (omega arith) (omega arith) ∙ transfer_loses i m (w 0) A (omega arith))
+      rw N.add-zero (refresh_share_keeps i (suc m) c (λ j. w (suc j)) (transfer q i m (w 0) A) m (omega arith) (omega arith) ∙ transfer_loses i m (w 0) A (omega arith))
   refresh_share_loses i m (suc c) w A (suc t) h l =
       let e : m + suc t ≡ suc m + t = omega arith in
       rw e (refresh_share_loses i (suc m) c (λ j. w (suc j)) (transfer q i m (w 0) A) t (omega arith) (le_of_suc-le-suc l)
@@ -98,8 +98,8 @@ module _ (q : ℕ) where
   unfolding refresh_from zero_sharing
   refresh_from_adds i zero w A r t h = absurd (not-suc-le-zero h)
   refresh_from_adds i (suc c) w A r zero h =
-      rw N.add_zero (refresh_from_keeps (suc i) c (after c w) (refresh_share q i (suc i) c w A) i (omega arith)
-      ∙ refresh_share_gains i (suc i) c w A (omega arith) (rw N.add_zero at (r zero h)))
+      rw N.add-zero (refresh_from_keeps (suc i) c (after c w) (refresh_share q i (suc i) c w A) i (omega arith)
+      ∙ refresh_share_gains i (suc i) c w A (omega arith) (rw N.add-zero at (r zero h)))
   refresh_from_adds i (suc c) w A r (suc t) h =
       let e : i + suc t ≡ suc i + t = omega arith in
       rw e (refresh_from_adds (suc i) c (after c w) (refresh_share q i (suc i) c w A) reduced t (le_of_suc-le-suc h)
@@ -111,7 +111,7 @@ module _ (q : ℕ) where
   -- step 3 adds a sharing of zero to shares below q
   pub refresh_adds : (n : ℕ) (w A : ℕ → ℕ) → ((t : ℕ) → t < n → reduce q (A t) ≡ A t) → Same n (refresh q n w A) (λ t. add q (A t) (zero_sharing n w t))
   refresh_adds n w A r t h =
-      let e : (s : ℕ) → 0 + s ≡ s = N.zero_add in
+      let e : (s : ℕ) → 0 + s ≡ s = N.zero-add in
       rw e at (refresh_from_adds 0 n w A (λ s l. rw (e s) (r s l)) t h)
 
   -- ---- its words

@@ -1,5 +1,7 @@
 // One shared bit to n shares modulo q (document 01, 'From one shared bit to n numbers'; source 003, Algorithm 5).
 // No branch, index, comparison, division or remainder depends on a share, a bit or a random word behind the checks.
+#![tactic(auto)]
+
 ghost use Rattle.std.specs.Prelude.{◌≡◌, ◌+◌, ◌-◌, ◌^◌, ◌≤◌, ◌<◌, length};
 ghost use Rattle.residue.specs.Residue.{sub};
 ghost use Rattle.buffers.specs.Overwrite.{overwrite};

@@ -1,5 +1,7 @@
 // The exam sheet: every reference value of documents 01 and 02, and the distribution of the sample for the parameter sets of FIPS 203, as the
 // library gives them.
+#![tactic(auto)]
+
 mod calls;
 mod fips203;
 mod print;

@@ -1,4 +1,6 @@
 // The text that the lesson program prints (document 01, 'Lesson files and the lesson program').
+#![tactic(auto)]
+
 mod lines;
 
 ghost use Rattle.std.specs.Prelude.{◌≡◌, ◌+◌, ◌≤◌, length};

@@ -1,4 +1,6 @@
 // Reading lesson files (document 01, 'Lesson files and the lesson program'): a cursor by value, and an enum for what was read.
+#![tactic(auto)]
+
 ghost use Rattle.std.specs.Prelude.{◌≡◌, ◌+◌, ◌*◌, ◌≤◌, length};
 ghost use Rattle.buffers.specs.Overwrite.{overwrite};
 ghost use Rattle.checks.specs.Checks.{checked, verdict};

@@ -1,4 +1,6 @@
 // The lesson program (document 01, 'Lesson files and the lesson program'): a lesson file from standard input, its text to standard output.
+#![tactic(auto)]
+
 ghost use Rattle.std.specs.Prelude.{◌≡◌, List, ℕ, ◌≤◌, length, take, replicate};
 ghost use Rattle.lesson.specs.Text.{lesson_text};
 ghost use Rattle.lesson_samples.specs.Input.{Read};

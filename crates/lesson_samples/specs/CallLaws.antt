@@ -2,7 +2,7 @@
 use Rattle.std.specs.Prelude.{◌≡◌, List, ℕ, ◌≤◌, length, take, drop}
 use Rattle.std.proofs.Math.Path.{refl, ap}
 use Rattle.std.proofs.Common.{sym, ◌∙◌, arith, le-leb, leb-true}
-use Rattle.std.proofs.Math.Nat.{zero_add}
+use Rattle.std.proofs.Math.Nat.{zero-add}
 use Rattle.std.proofs.Math.ListN.{length-append}
 use Rattle.buffers.specs.Laws.{front, take-front}
 use Rattle.checks.specs.Checks.{accepted, checked}
@@ -33,7 +33,7 @@ module _ (room : ℕ) (piece file words out work text : List ℕ) where
 
     pub call-done : r ≡ Passed → (b : SampleBuffers) (after : List ℕ) (count : ℕ) → b ≡ after_lesson (lesson file) (sample_buffers words out work) → Wrote text 0 piece after count → outcome (Done count) (with_text b after) ≡ piece_written room piece file words out work text
     unfolding piece_written
-    call-done i b after count d w = rw (d, w.0, w.1, zero_add (length piece)) (settles_accepted _ _ e _ (with_text (sample_buffers words out work) text) _ i)
+    call-done i b after count d w = rw (d, w.0, w.1, zero-add (length piece)) (settles_accepted _ _ e _ (with_text (sample_buffers words out work) text) _ i)
 
   -- With room enough the call is accepted, whatever the file.
   pub call-accepted : SampleRoom (length words) (length out) (length work) → room ≤ length text → (piece_written room piece file words out work text).answer ≡ accepted (length piece)

@@ -2,7 +2,7 @@
 use Rattle.std.specs.Prelude.{◌≡◌, List, [], ◌∷◌, ℕ, ◌+◌, ◌≤◌, ℤ, nat_abs, take}
 use Rattle.std.proofs.Common.{sym, ◌∙◌, arith, leb-true, eq-eqb}
 use Rattle.std.proofs.Math.Path.{ap}
-use Rattle.std.proofs.Math.Nat.{zero_add}
+use Rattle.std.proofs.Math.Nat.{zero-add}
 use Rattle.std.proofs.Math.ListN.{length}
 use Rattle.residue.specs.Residue.{reduce, total, EachBelow}
 use Rattle.buffers.specs.Overwrite.{overwrite}
@@ -43,7 +43,7 @@ module _ (file : List ℕ) (l : Layout) (w : WholeSample file l) (g : Hold (fit_
   -- RW has the words that the sample takes
   pub sample-words : sample_words l.parameters.n l.parameters.k ≤ l.count
   unfolding sample_of
-  sample-words = rw (← length-words file (l.lists.next.at + 4) l.count, ← zero_add (sample_words s.n s.k)) (leb-true _ _ others.1.1.0)
+  sample-words = rw (← length-words file (l.lists.next.at + 4) l.count, ← zero-add (sample_words s.n s.k)) (leb-true _ _ others.1.1.0)
 
   -- its value is from -16 to 16
   pub value-small : nat_abs (value_of s) ≤ 16

@@ -2,7 +2,7 @@
 use Rattle.std.specs.Prelude.{◌≡◌, List, ℕ, ◌+◌, length}
 use Rattle.std.proofs.Math.Path.{sym, ap}
 use Rattle.std.proofs.Common.{◌∙◌, arith, le-leb, eq-eqb}
-use Rattle.std.proofs.Math.Nat.{zero_add}
+use Rattle.std.proofs.Math.Nat.{zero-add}
 use Rattle.buffers.specs.Overwrite.{overwrite}
 use Rattle.checks.specs.Checks.{Check, accepted, refused, verdict, settled, parameter_checks, exactly, room_checks}
 use Rattle.checks.specs.Laws.{Hold, pass, accepted-holds, accepted-answer, passes-part, passes-behind, settled-done, settled-refused, settled-accepted, within_true}
@@ -54,7 +54,7 @@ module _ (file : List ℕ) (l : Layout) (w : WholeSample file l) (b : SampleBuff
         let d = settled-done _ _ _ (sym (ap (λ a. outcome a (both out work)) i) ∙ e) in
         let v = sym others_decide ∙ d.0 in
         let h = located-holds (record_of l) (other_checks s) (accepted-holds end used (other_checks s) v) in
-        let t = accepted-answer end used (other_checks s) v ∙ zero_add (sample_words s.n s.k) in
+        let t = accepted-answer end used (other_checks s) v ∙ zero-add (sample_words s.n s.k) in
         rw (m, t)
         (ap (λ c. record { answer = accepted (sample_words s.n s.k); buffers = sample_buffers (overwrite b.words 0 s.words) c.out c.work }) d.1
         ∙ sym (settled-accepted (sample_words s.n s.k) (fit_checks file l) (loaded s b) (sampled_in s b) h))

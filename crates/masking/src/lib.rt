@@ -1,5 +1,7 @@
 // Boolean and arithmetic sharings: making and opening them.
 // A refused call changes nothing.
+#![tactic(auto)]
+
 ghost use Rattle.std.specs.Prelude.{◌≡◌, ◌^◌, ◌<◌, length};
 ghost use Rattle.residue.specs.Residue.{reduce, total, EachBelow};
 ghost use Rattle.buffers.specs.Overwrite.{overwrite};

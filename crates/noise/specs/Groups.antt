@@ -63,7 +63,7 @@ module _ (bytes : List ℕ) (k i g : ℕ) (h : g < 64) where
       ∙ from_same k _ _ (λ j n. ap (at (bytes_to_bits bytes)) (omega arith) ∙ sym (string_bit k bytes i (2 * (4 * g + c) * k + d + j) (omega arith)))
 
   pub group_x : (c : ℕ) → c < 4 → word_at (8 * k) bytes (8 * group_at k i g) / 2 ^ (2 * k * c) % 2 ^ k ≡ word_at k (noise_string k bytes i) (x_bit k (4 * g + c))
-  group_x c l = simp N.add_zero at (group_word c 0 l (omega arith))
+  group_x c l = simp N.add-zero at (group_word c 0 l (omega arith))
 
   pub group_y : (c : ℕ) → c < 4 → word_at (8 * k) bytes (8 * group_at k i g) / 2 ^ (2 * k * c + k) % 2 ^ k ≡ word_at k (noise_string k bytes i) (y_bit k (4 * g + c))
   group_y c l = group_word c k l (N.le_refl k)

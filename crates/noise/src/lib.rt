@@ -1,5 +1,7 @@
 // ML-KEM noise bytes (document 02, A.5), split into the shares of 256 coefficients.
 // No branch, index, comparison, division or remainder depends on a byte.
+#![tactic(auto)]
+
 ghost use Rattle.std.specs.Prelude.{◌≡◌, ◌+◌, ◌*◌, ◌/◌, ◌%◌, ◌^◌, ◌≤◌, ◌<◌, length};
 ghost use Rattle.buffers.specs.Overwrite.{overwrite};
 ghost use Rattle.buffers.specs.Columns.{stored};

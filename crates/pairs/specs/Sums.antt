@@ -21,7 +21,7 @@ sum_const zero c = omega arith
 sum_const (suc n) c = omega (arith, sum_const n c)
 
 pub sum_zero : (n : ℕ) (f : ℕ → ℕ) → ((i : ℕ) → i < n → f i ≡ 0) → sum_to n f ≡ 0
-sum_zero n f h = sum_same n f (λ i. 0) h ∙ sum_const n 0 ∙ N.mul_zero n
+sum_zero n f h = sum_same n f (λ i. 0) h ∙ sum_const n 0 ∙ N.mul-zero n
 
 pub sum_le : (n c : ℕ) (f : ℕ → ℕ) → ((i : ℕ) → i < n → f i ≤ c) → sum_to n f ≤ n * c
 unfolding total table
@@ -36,7 +36,7 @@ sum_plus (suc n) f g = omega (arith, sum_plus n (λ i. f (suc i)) (λ i. g (suc 
 -- the first m terms, and the others
 pub sum_split : (m n : ℕ) (f : ℕ → ℕ) → sum_to (n + m) f ≡ sum_to m f + sum_to n (after m f)
 unfolding total table
-sum_split zero n f = simp (N.add_zero, N.zero_add) (ap (sum_to n) (sym (after_zero f)))
+sum_split zero n f = simp (N.add-zero, N.zero-add) (ap (sum_to n) (sym (after_zero f)))
 sum_split (suc m) n f =
     rw (N.add-suc n m) (omega (arith, sum_split m n (λ i. f (suc i)), sum_same n (after m (λ i. f (suc i))) (after (suc m) f) (λ i l. ap f (sym (N.suc-add m i)))))
 
@@ -50,4 +50,4 @@ pub sum_pick : (n p : ℕ) (g : ℕ → ℕ) → p < n → sum_to n (λ i. indic
 unfolding total table
 sum_pick zero p g h = absurd (N.not-suc-le-zero h)
 sum_pick (suc n) zero g h = simp (eqb-zero-suc, N.zero-mul) (omega (arith, sum_const n 0))
-sum_pick (suc n) (suc p) g h = simp (eqb-suc-zero, eqb-suc-suc, N.zero-mul, N.zero_add) (sum_pick n p (λ i. g (suc i)) (N.le_of_suc-le-suc h))
+sum_pick (suc n) (suc p) g h = simp (eqb-suc-zero, eqb-suc-suc, N.zero-mul, N.zero-add) (sum_pick n p (λ i. g (suc i)) (N.le_of_suc-le-suc h))

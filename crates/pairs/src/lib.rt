@@ -1,4 +1,6 @@
 // How many pairs of k-bit strings have a given difference of weights.
+#![tactic(auto)]
+
 ghost use Rattle.std.specs.Prelude.{◌≡◌, ◌^◌, ◌≤◌};
 ghost use Rattle.buffers.specs.Positions.{at, Below};
 ghost use Rattle.pairs.specs.Rows.{pair_row, next_row};

@@ -2,7 +2,7 @@
 use mathlib.Core.Path.{◌≡◌, sym, ap, ◌∙◌}
 use mathlib.Core.List.{List, ◌++◌}
 use Prim.Native.Nat.{ℕ, ◌+◌, ◌-◌, ◌*◌, ◌≤◌, ◌<◌}
-use native.Mathlib.Nat.{zero_add}
+use native.Mathlib.Nat.{zero-add}
 use native.Mathlib.Omega.{arith}
 use lib.ListN.{length, take, drop}
 use lib.Seq.{get_or-drop}
@@ -36,7 +36,7 @@ module _ (n k q : ℕ) (x y words : List ℕ) (t : ℕ) where
       → after ≡ overwrite before 0 (polynomial_shares n k q (t + 1) x y words)
   unfolding polynomial_shares
   coefficients_next before out after e d =
-      d ∙ ap (λ (p : ℕ). overwrite out p (coefficient_shares n k q x y words t)) (sym (zero_add (t * n))) ∙ rows_next before 0 n _ t out _ e coefficient-row
+      d ∙ ap (λ (p : ℕ). overwrite out p (coefficient_shares n k q x y words t)) (sym (zero-add (t * n))) ∙ rows_next before 0 n _ t out _ e coefficient-row
 
   pub coefficients_length : (before out : List ℕ) → out ≡ overwrite before 0 (polynomial_shares n k q t x y words) → t * n ≤ length before → length out ≡ length before
   unfolding polynomial_shares

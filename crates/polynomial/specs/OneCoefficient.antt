@@ -1,7 +1,7 @@
 -- A polynomial of one coefficient is a sample: the whole outcome is that of the sampler from word 0 on, for every input.
 use Rattle.std.specs.Prelude.{◌≡◌, refl, ℕ, ◌+◌, ◌*◌, length, take}
 use Rattle.std.proofs.Math.Path.{sym, ap₂}
-use Rattle.std.proofs.Common.{ap, ◌∙◌, zero_add, one-mul, le_refl, le_of_eq, take_all}
+use Rattle.std.proofs.Common.{ap, ◌∙◌, zero-add, one-mul, le_refl, le_of_eq, take_all}
 use mathlib.Core.List.{List, ◌∷◌, ◌++◌}
 use Rattle.std.proofs.Math.Seq.{take-take}
 use Rattle.buffers.specs.Positions.{block}
@@ -35,7 +35,7 @@ module _ (n k q : ℕ) (x y words out work : List ℕ) where
   verdicts =
       same-behind (polynomial_words n k 1) (parameter_checks n k q) (coefficient_count 1 ∷ others (polynomial_words n k 1) (1 * n)) (others (polynomial_words n k 1) (1 * n)) (pass (polynomial_words n k 1) (coefficient_count 1) _ refl)
       ∙ ap₂ (λ (count shares : ℕ). verdict (parameter_checks n k q ++ others count shares) count) (one-mul (sample_words n k)) (one-mul n)
-      ∙ ap (verdict (sample_checks n k q x y words 0 (length out) (length work))) (sym (zero_add (sample_words n k)))
+      ∙ ap (verdict (sample_checks n k q x y words 0 (length out) (length work))) (sym (zero-add (sample_words n k)))
 
   pub one-coefficient : sampled_polynomial n k q 1 x y words out work ≡ sampled n k q x y words 0 out work
   unfolding sampled_polynomial

@@ -1,5 +1,7 @@
 // Whole polynomials (document 02, A.1): m samples in one call, coefficient after coefficient.
 // No branch, index, comparison, division or remainder depends on a share, a bit or a random word behind the checks.
+#![tactic(auto)]
+
 ghost use Rattle.std.specs.Prelude.{◌≡◌, ◌+◌, ◌*◌, ◌≤◌, length};
 ghost use Rattle.buffers.specs.Overwrite.{overwrite};
 ghost use Rattle.buffers.specs.Positions.{at, Same};

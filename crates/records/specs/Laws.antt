@@ -1,7 +1,7 @@
 -- Laws of lists of records and of their bytes.
 use Rattle.std.specs.Prelude.{◌≡◌, List, [], ◌∷◌, ◌++◌, ℕ, zero, suc, ◌+◌, ◌-◌, ◌*◌, ◌<◌, length, get_or, take, drop}
 use Rattle.std.proofs.Math.Path.{refl}
-use Rattle.std.proofs.Common.{sym, ap, ap₂, ◌∙◌, append_assoc, append-nil, suc-le-suc, add_zero, zero-mul, mul-one, not-suc-le-zero, le_of_suc-le-suc, add-one, arith, length-append, take_at, drop_at, drop-drop}
+use Rattle.std.proofs.Common.{sym, ap, ap₂, ◌∙◌, append_assoc, append-nil, suc-le-suc, add-zero, zero-mul, mul-one, not-suc-le-zero, le_of_suc-le-suc, add-one, arith, length-append, take_at, drop_at, drop-drop}
 use Rattle.buffers.specs.Positions.{Same}
 use Rattle.text.specs.Laws.{wrote_nothing, wrote_then, wrote-length}
 use Rattle.records.specs.Records.{Step, step, none, step_bytes, record_bytes, bytes, across, per_share, Fits, Recorded}
@@ -23,7 +23,7 @@ pub across_from : (k t : ℕ) (f : ℕ → List Step) → t < k → across (k - 
 unfolding across
 across_from k t f h =
     let e : k - t ≡ suc (k - (t + 1)) = omega arith in
-    rw e (ap₂ ◌++◌ (ap f (add_zero t)) (across-same (k - (t + 1)) _ _ (λ i l. ap f (omega arith))))
+    rw e (ap₂ ◌++◌ (ap f (add-zero t)) (across-same (k - (t + 1)) _ _ (λ i l. ap f (omega arith))))
 
 -- of a record each
 pub across-at : (n : ℕ) (r : ℕ → Step) (i : ℕ) → i < n → get_or (across n (λ i. r i ∷ [])) i none ≡ r i

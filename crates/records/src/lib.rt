@@ -1,4 +1,6 @@
 // Step records as bytes (document 02, A.8). Each function writes from a position on and answers the position behind what it wrote.
+#![tactic(auto)]
+
 ghost use Rattle.std.specs.Prelude.{◌≡◌, [], ◌∷◌, ◌≤◌, length};
 ghost use Rattle.buffers.specs.Positions.{at};
 ghost use Rattle.records.specs.Records.{step, value_bytes, per_share, Fits, Recorded};

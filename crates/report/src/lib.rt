@@ -1,4 +1,6 @@
 // The class report (document 02, A.4).
+#![tactic(auto)]
+
 ghost use Rattle.std.specs.Prelude.{◌≡◌, ◌^◌, ◌≤◌, length};
 ghost use Rattle.buffers.specs.Positions.{at, Below};
 ghost use Rattle.checks.specs.Answers.{checked_reading, outcome};

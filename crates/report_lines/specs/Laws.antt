@@ -1,7 +1,7 @@
 -- The pieces of a line, and the lines, one behind the other.
 use Rattle.std.specs.Prelude.{◌≡◌, Bool, false, ℕ, zero, suc, ◌+◌, ◌-◌, ◌^◌, ◌≤◌, ◌<◌, ℤ, length}
 use Rattle.std.proofs.Math.Path.{refl, sym, ap}
-use Rattle.std.proofs.Common.{◌∙◌, add_zero, add-one, arith, eq-eqb, ne_eqb, length-append}
+use Rattle.std.proofs.Common.{◌∙◌, add-zero, add-one, arith, eq-eqb, ne_eqb, length-append}
 use mathlib.Core.List.{List, [], ◌∷◌, ◌++◌, append-nil, append_assoc}
 use Rattle.pairs.specs.Pairs.{pairs}
 use Rattle.tally.specs.Tally.{Line, line_of, lines_of, sample_at}
@@ -60,7 +60,7 @@ module _ (mixed : Bool) (k : ℕ) where
 
     -- they are no longer than all
     lines-within : (more e : ℕ) → length (first_lines e) ≤ length (first_lines (e + more))
-    lines-within zero e = rw (add_zero e) (omega arith)
+    lines-within zero e = rw (add-zero e) (omega arith)
     lines-within (suc more) e =
         let f : e + suc more ≡ e + more + 1 = omega arith in
         rw (f, lines_next (e + more), length-append) (omega (arith, lines-within more e))

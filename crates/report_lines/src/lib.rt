@@ -1,5 +1,7 @@
 // The lines of the class report (document 02, A.4), by what was counted. A function that writes answers the position behind what it wrote, and
 // begins at the position that it is given, or in front.
+#![tactic(auto)]
+
 ghost use Rattle.std.specs.Prelude.{◌≡◌, ◌∷◌, ◌+◌, ◌^◌, ◌≤◌, ◌<◌, length};
 ghost use Rattle.buffers.specs.Positions.{at, Below};
 ghost use Rattle.pairs.specs.Pairs.{pairs};

@@ -1,4 +1,6 @@
 // The report program (document 02, A.4): a lesson file from standard input, its class report to standard output.
+#![tactic(auto)]
+
 ghost use Rattle.std.specs.Prelude.{◌≡◌, List, ℕ, ◌≤◌, length, take};
 ghost use Rattle.lesson_samples.specs.Input.{Read};
 ghost use Rattle.report.specs.Report.{report_text, report_room};

@@ -2,7 +2,7 @@
 use mathlib.Core.Path.{◌≡◌, refl, ap, ap₂, ◌∙◌}
 use mathlib.Core.Bool.{true, false, true≢false}
 use Prim.Native.Nat.{ℕ, suc, ◌^◌, ◌<◌, ◌≤◌}
-use native.Mathlib.Nat.{zero_add}
+use native.Mathlib.Nat.{zero-add}
 use native.Mathlib.Omega.{arith}
 use native.Mathlib.Decide.{dec_le}
 use lib.IntN.{ℤ, pos, negsuc, ◌-ℤ◌, nat_abs}
@@ -35,7 +35,7 @@ read_back z h = to_z-of_z (sfits_of h)
 
 below_zero : (z : ℤ) → lt_z z (pos 0) ≡ true → pos 0 -ℤ z ≡ pos (nat_abs z)
 below_zero (pos n) e = absurd (omega (arith, ltb-true n 0 e))
-below_zero (negsuc n) e = ap pos (zero_add (suc n))
+below_zero (negsuc n) e = ap pos (zero-add (suc n))
 
 not_below_zero : (z : ℤ) → lt_z z (pos 0) ≡ false → z ≡ pos (nat_abs z)
 not_below_zero (pos n) e = refl

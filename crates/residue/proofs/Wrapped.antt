@@ -1,7 +1,7 @@
 -- A 32-bit difference, with q added where it is below zero, is the difference modulo q. Negated before, it is the difference the other way round.
 use mathlib.Core.Path.{◌≡◌, ap, ◌∙◌}
 use Prim.Native.Nat.{ℕ, zero, suc, ◌+◌, ◌*◌, ◌-◌, ◌/◌, ◌%◌, ◌^◌, ◌≤◌, ◌<◌}
-use native.Mathlib.Nat.{mul_zero, mul-one}
+use native.Mathlib.Nat.{mul-zero, mul-one}
 use native.Mathlib.Omega.{arith}
 use native.Mathlib.Decide.{dec_le}
 use lib.Bits.{bit_and, bit_xor, and_mask, mask_lt, xor_add_and, xor_zero_r}
@@ -37,7 +37,7 @@ module _ (q d : ℕ) where
   low : d < 2 ^ 31 → q * (d / 2 ^ 31) ≡ 0
   low h =
       let z : d / 2 ^ 31 ≡ 0 = omega arith in
-      ap (λ (x : ℕ). q * x) z ∙ mul_zero q
+      ap (λ (x : ℕ). q * x) z ∙ mul-zero q
 
   high : 2 ^ 31 ≤ d → d < 2 ^ 32 → q * (d / 2 ^ 31) ≡ q
   high h l =

@@ -8,7 +8,7 @@ use Rattle.residue.specs.Residue.{reduce, neg, sub, reduceℤ}
 use Rattle.residue.specs.Laws.{reduce_plus, reduce-neg, reduce_lt, add-reduce-left, neg-reduce, add_assoc, zero_add, add-neg, neg-add, add_sub_cancel}
 
 pub minus_zero : (a : ℕ) → pos a -ℤ pos 0 ≡ pos a
-minus_zero a = ap pos (N.add_zero a)
+minus_zero a = ap pos (N.add-zero a)
 
 pub minus-above : (a b : ℕ) → b ≤ a → pos a -ℤ pos b ≡ pos (a - b)
 minus-above a zero h = ap pos (omega arith)

@@ -1,5 +1,7 @@
 // Arithmetic modulo q. Sums and differences have no division, remainder, comparison or branch on their operands.
 // Every cast to or from Word stands here.
+#![tactic(auto)]
+
 ghost use Rattle.std.specs.Prelude.{◌≡◌, ◌+◌, ◌^◌, ◌≤◌, ◌<◌, pos, ◌-ℤ◌, nat_abs};
 ghost use Rattle.residue.specs.Residue.{add, sub, cswap_sub};
 

@@ -3,7 +3,7 @@ use mathlib.Core.Path.{◌≡◌, refl, ap, ◌∙◌}
 use mathlib.Core.Bool.{Bool, true, false}
 use mathlib.Core.List.{List, ◌++◌}
 use Prim.Native.Nat.{ℕ, suc, ◌+◌, ◌-◌, ◌*◌, ◌/◌, ◌≤◌, ◌<◌}
-use native.Mathlib.Nat.{zero_add, mul-le-mul}
+use native.Mathlib.Nat.{zero-add, mul-le-mul}
 use native.Mathlib.Numerals.{add-one}
 use native.Mathlib.Omega.{arith}
 use Rattle.residue.specs.Residue.{sub}
@@ -45,7 +45,7 @@ module _ (n k q : ℕ) (negative : Bool) (first : ℕ) (x w : ℕ → ℕ) (l : 
     unfolding string_steps
     bits-all h =
         let z : k - 0 ≡ k = omega arith in
-        let e : across (k - 0) (λ i. steps_at (0 + i)) ≡ across k steps_at = ap (λ (c : ℕ). across c (λ i. steps_at (0 + i))) z ∙ across-same k _ _ (λ i g. ap steps_at (zero_add i)) in
+        let e : across (k - 0) (λ i. steps_at (0 + i)) ≡ across k steps_at = ap (λ (c : ℕ). across c (λ i. steps_at (0 + i))) z ∙ across-same k _ _ (λ i g. ap steps_at (zero-add i)) in
         record { left = rw e (left-all before position all_steps h) }
 
     module _ (t : ℕ) {records : List ℕ} {end : ℕ} (U : BitsLeft t records end) where

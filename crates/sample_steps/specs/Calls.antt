@@ -1,7 +1,7 @@
 -- What holds of every call.
 use Rattle.std.specs.Prelude.{◌≡◌, length, get_or, take}
 use Rattle.std.proofs.Math.Path.{refl, sym, ap, ap₂}
-use Rattle.std.proofs.Common.{◌∙◌, zero_add, arith, le-leb}
+use Rattle.std.proofs.Common.{◌∙◌, zero-add, arith, le-leb}
 use mathlib.Core.List.{List, [], ◌∷◌, ◌++◌}
 use Prim.Native.Nat.{ℕ, ◌+◌, ◌-◌, ◌*◌, ◌≤◌, ◌<◌}
 use Rattle.std.proofs.lemmas.Bool.{lt-leb}
@@ -61,7 +61,7 @@ module _ (n k q : ℕ) (x y words out work records : List ℕ) where
   unfolding sampled
   steps-sampled h =
       let v = verdict checks (0 + sample_words n k) in
-      let e : steps_sampled n k q x y words out work records ≡ settled v before after = by_verdict (passes-behind (sample_words n k) checks room (le-leb _ _ h, tt) ∙ ap (verdict checks) (sym (zero_add (sample_words n k)))) in (
+      let e : steps_sampled n k q x y words out work records ≡ settled v before after = by_verdict (passes-behind (sample_words n k) checks room (le-leb _ _ h, tt) ∙ ap (verdict checks) (sym (zero-add (sample_words n k)))) in (
         ap (λ (o : Outcome ℕ Lists). o.answer) e ∙ settled-answer v before after ∙ sym sampler-answer,
         ap (λ (o : Outcome ℕ Lists). o.buffers.sampler) e ∙ settled-twice v (both out work) _ (λ (l : Lists). l.sampler) before after refl refl,
       )

@@ -1,6 +1,8 @@
 // The masked binomial sampler with a record of each step (document 02, A.8). Records are written from a position on, and functions that write a
 // part of them answer the position behind it.
 // No branch, index, comparison, division or remainder depends on a share, a bit or a random word behind the checks.
+#![tactic(auto)]
+
 ghost use Rattle.std.specs.Prelude.{◌≡◌, ◌+◌, ◌*◌, ◌≤◌, ◌<◌, length};
 ghost use Rattle.buffers.specs.Overwrite.{overwrite};
 ghost use Rattle.buffers.specs.Positions.{at, table, after, Same, Below};

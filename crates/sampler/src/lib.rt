@@ -1,5 +1,7 @@
 // The masked binomial sampler (document 01, 'The sample'; source 003, Algorithm 10).
 // No branch, index, comparison, division or remainder depends on a share, a bit or a random word behind the checks.
+#![tactic(auto)]
+
 ghost use Rattle.std.specs.Prelude.{◌≡◌};
 ghost use Rattle.checks.specs.Checks.{checked};
 ghost use Rattle.checks.specs.Answers.{checked_reading, outcome};

@@ -46,11 +46,11 @@ module _ (q bit : ℕ) (w A : ℕ → ℕ) (p i m c o : ℕ) where
 
   pairs_next : refresh_share q i m (suc c) (after o w) A ≡ refresh_share q i (suc m) c (after (suc o) w) (paired (w o))
   unfolding refresh_share
-  pairs_next = ap₂ (λ (v : ℕ → ℕ) (r : ℕ). refresh_share q i (suc m) c v (paired r)) words (ap w (N.add_zero o))
+  pairs_next = ap₂ (λ (v : ℕ → ℕ) (r : ℕ). refresh_share q i (suc m) c v (paired r)) words (ap w (N.add-zero o))
 
   pair-steps : refresh_share_steps q bit p i m (suc c) (after o w) A ≡ pair_steps bit p i m (paired (w o)) ++ refresh_share_steps q bit (suc p) i (suc m) c (after (suc o) w) (paired (w o))
   unfolding refresh_share_steps
-  pair-steps = ap₂ (λ (v : ℕ → ℕ) (r : ℕ). pair_steps bit p i m (paired r) ++ refresh_share_steps q bit (suc p) i (suc m) c v (paired r)) words (ap w (N.add_zero o))
+  pair-steps = ap₂ (λ (v : ℕ → ℕ) (r : ℕ). pair_steps bit p i m (paired r) ++ refresh_share_steps q bit (suc p) i (suc m) c v (paired r)) words (ap w (N.add-zero o))
 
 -- c of them are left: they make of the list the wanted shares, and their records are left
 pub record PairsLeft (q n bit : ℕ) (w wanted : ℕ → ℕ) (before : List ℕ) (start : ℕ) (whole : List Step) (p i m c o : ℕ) (list records : List ℕ) (end : ℕ) : Type 0 where

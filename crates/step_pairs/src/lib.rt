@@ -1,5 +1,7 @@
 // Step 3 of a bit's conversion, with a record of each value (document 02, A.8). Each function answers the position behind its last record.
 // No branch, index, comparison, division or remainder depends on a share, a bit or a random word.
+#![tactic(auto)]
+
 ghost use Rattle.std.specs.Prelude.{◌≡◌, ◌+◌, ◌-◌, ◌≤◌, ◌<◌, length};
 ghost use Rattle.buffers.specs.Positions.{at, after, Below};
 ghost use Rattle.conversion.specs.Conversion.{pairs, transfer, refresh_share, refresh};

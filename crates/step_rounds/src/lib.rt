@@ -1,5 +1,7 @@
 // Steps 1 and 2 of a bit's conversion, with a record of each value (document 02, A.8).
 // No branch, index, comparison, division or remainder depends on a share, a bit or a random word.
+#![tactic(auto)]
+
 ghost use Rattle.std.specs.Prelude.{◌≡◌, ◌+◌, ◌≤◌, ◌<◌, length};
 ghost use Rattle.residue.specs.Residue.{mul};
 ghost use Rattle.buffers.specs.Positions.{at, after, Below};

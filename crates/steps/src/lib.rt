@@ -1,1 +1,2 @@
 // No functions: the step records of a sample.
+#![tactic(auto)]

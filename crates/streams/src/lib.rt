@@ -1,4 +1,6 @@
 // Standard input as the programs read it.
+#![tactic(auto)]
+
 ghost use Rattle.std.specs.Prelude.{◌≡◌, true, false, ◌≤◌, length};
 
 use libc::STDIN_FILENO;

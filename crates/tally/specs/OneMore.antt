@@ -2,7 +2,7 @@
 use Rattle.std.specs.Prelude.{◌≡◌, refl, Bool, true, false, cond, not, ◌&&◌, ◌||◌, List, [], ◌∷◌, ◌++◌, map, ℕ, ◌+◌, ◌≤◌, ◌<◌, eqb, ℤ, nat_abs, ◌+ℤ◌, length, set}
 use Rattle.std.proofs.Common.{sym, ◌∙◌, arith, eq-eqb, ne_eqb, length-append, length-set}
 use Rattle.std.proofs.Math.Path.{ap}
-use Rattle.std.proofs.Math.Bool.{and_true, and_assoc}
+use Rattle.std.proofs.Math.Bool.{and-true, and_assoc}
 use Rattle.std.proofs.Math.Dec.{eqb-suc-zero}
 use Rattle.std.proofs.Math.IntN.{+ℤ_assoc, +ℤ_idl, +ℤ_idr}
 use Rattle.residue.specs.Residue.{total}
@@ -63,7 +63,7 @@ first_one [] k = refl
 first_one (j ∷ ks) k = rw (eqb-suc-zero (length ks))
 
 all_one : (a : ℕ) (ks : List ℕ) (k : ℕ) → all_are a (ks ++ (k ∷ [])) ≡ all_are a ks && eqb k a
-all_one a [] k = and_true (eqb k a)
+all_one a [] k = and-true (eqb k a)
 all_one a (j ∷ ks) k = ap (λ (b : Bool). eqb j a && b) (all_one a ks k) ∙ sym (and_assoc (eqb j a) (all_are a ks) (eqb k a))
 
 not_and : (p q : Bool) → not (p && q) ≡ not p || not q

@@ -1,4 +1,6 @@
 // Samples counted: how often each came, their sum, the sum of their squares.
+#![tactic(auto)]
+
 ghost use Rattle.std.specs.Prelude.{◌≡◌, cond, not, ◌||◌, [], ◌+◌, ◌^◌, ◌≤◌, ◌<◌, eqb, nat_abs, ◌+ℤ◌, set};
 ghost use Rattle.buffers.specs.Positions.{at, Below};
 ghost use Rattle.pairs.specs.Integers.{position};

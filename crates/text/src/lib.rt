@@ -1,4 +1,6 @@
 // Writing text. Each function writes from a position on and answers the position behind what it wrote.
+#![tactic(auto)]
+
 ghost use Rattle.std.specs.Prelude.{map, ◌++◌, ◌+◌, ◌≤◌, length};
 ghost use Rattle.text.specs.Ascii.{ascii};
 ghost use Rattle.text.specs.Text.{decimal, signed, spaced, Wrote};

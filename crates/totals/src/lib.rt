@@ -1,5 +1,7 @@
 // The shares of a sample (document 01, 'The sample'): running totals over its bits.
 // No branch, index, comparison, division or remainder depends on a share, a bit or a random word.
+#![tactic(auto)]
+
 ghost use Rattle.std.specs.Prelude.{◌≡◌, ◌+◌, ◌*◌, ◌≤◌, length, drop};
 ghost use Rattle.buffers.specs.Overwrite.{overwrite};
 ghost use Rattle.buffers.specs.Positions.{at, table, after, Same, Below};

@@ -1,5 +1,7 @@
 // The number of a shared string to n shares modulo q (document 02, A.7; source 003, Algorithm 9).
 // No branch, index, comparison, division or remainder depends on a share, a bit or a random word behind the checks.
+#![tactic(auto)]
+
 ghost use Rattle.std.specs.Prelude.{◌≡◌, ◌+◌, ◌≤◌, length};
 ghost use Rattle.buffers.specs.Overwrite.{overwrite};
 ghost use Rattle.buffers.specs.Positions.{at, table, after, Below};

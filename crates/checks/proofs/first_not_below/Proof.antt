@@ -1,7 +1,7 @@
 -- The search passed the bits below b and, in bit b, the words below i.
 use mathlib.Core.Path.{◌≡◌, refl, sym, ap, ◌∙◌}
 use Prim.Native.Nat.{◌+◌, ◌*◌, ◌-◌, ◌≤◌, ◌<◌}
-use native.Mathlib.Nat.{zero-mul, add_zero, add_assoc}
+use native.Mathlib.Nat.{zero-mul, add-zero, add_assoc}
 use native.Mathlib.Omega.{arith}
 use lib.ListN.{length, take, drop}
 use borrow.Author.Rules.{rules}
@@ -35,7 +35,7 @@ bits-holds : tie.Need-bits-init invariant-loop decreases-loop invariant-bits dec
 bits-holds c = (omega arith, refl, omega (arith, zero-mul c.args.per), rw (zero-mul c.args.per) (search_begins _ _ _))
 
 loop-holds : tie.Need-loop-init invariant-loop decreases-loop invariant-bits decreases-bits
-loop-holds c = (omega arith, c.before.bits.invariant.1, omega (arith, c.before.bits.invariant.2), rw (add_zero (c.before.bits.b * c.before.before.args.per)) c.before.bits.invariant.3)
+loop-holds c = (omega arith, c.before.bits.invariant.1, omega (arith, c.before.bits.invariant.2), rw (add-zero (c.before.bits.b * c.before.before.args.per)) c.before.bits.invariant.3)
 
 mul-if1 : tie.Need-overflow-mul-if1 invariant-loop decreases-loop invariant-bits decreases-bits
 mul-if1 c = omega (arith, in_list c)

@@ -1,7 +1,7 @@
 -- Share after share.
 use mathlib.Core.Path.{◌≡◌, refl}
 use Prim.Native.Nat.{◌+◌, ◌-◌, ◌≤◌}
-use native.Mathlib.Nat.{zero_add}
+use native.Mathlib.Nat.{zero-add}
 use native.Mathlib.Numerals.{add-one}
 use native.Mathlib.Omega.{arith}
 use borrow.Author.Rules.{rules}
@@ -41,7 +41,7 @@ loop-holds c =
     let a = s.args in
     let z : a.start + 0 ≡ a.start = omega arith in
     let y : a.n - 0 ≡ a.n = omega arith in
-    (omega arith, rw y (zero_add (pairs a.n)), rw (z, y) (record { eight = s.requires.2; below = s.requires.3; shares = refl; left = left-all _ _ _ s.requires.5 }))
+    (omega arith, rw y (zero-add (pairs a.n)), rw (z, y) (record { eight = s.requires.2; below = s.requires.3; shares = refl; left = left-all _ _ _ s.requires.5 }))
 
 add-refresh-share-steps : tie.Need-overflow-add-refresh-share-steps invariant-loop decreases-loop
 add-refresh-share-steps c = search rules

@@ -2,7 +2,7 @@
 use mathlib.Core.Path.{◌≡◌, ap, ap₂, ◌∙◌}
 use mathlib.Core.List.{List, []}
 use Prim.Native.Nat.{ℕ}
-use native.Mathlib.Nat.{zero_add}
+use native.Mathlib.Nat.{zero-add}
 use native.Mathlib.Omega.{arith}
 use lib.ListN.{length}
 use borrow.Author.Rules.{rules}
@@ -75,7 +75,7 @@ unfolding converted_value
 returns-2 c =
     let w = c.before.before in
     let t = passed w in (
-      ap₂ (λ (p : ℕ) (out : List ℕ). outcome (Done p) out) (w.write-value.ensures.1 ∙ zero_add _) (written w) ∙ settles_accepted _ _ t.before.before.check-value.ensures _ _ _ t.enum_told.given.1,
+      ap₂ (λ (p : ℕ) (out : List ℕ). outcome (Done p) out) (w.write-value.ensures.1 ∙ zero-add _) (written w) ∙ settles_accepted _ _ t.before.before.check-value.ensures _ _ _ t.enum_told.given.1,
       value-secrecy _ _ _,
     )
 
