@@ -1,2 +1,1 @@
 pub mod Wrapped
-pub mod Signed
