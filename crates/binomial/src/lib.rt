@@ -14,7 +14,7 @@ use masking::{OpenedResidue, OpenedString};
 use residue::Word;
 
 // A string length k and a modulus q.
-#[derive(Drop)]
+#[derive(Clone, Copy)]
 pub struct ParameterSet {
     pub k: usize,
     pub q: Word,

@@ -12,13 +12,13 @@ use checks::{Answer, Checked, Refusal};
 use residue::Word;
 
 // Where a record begins.
-#[derive(Drop)]
+#[derive(Clone, Copy)]
 pub struct Cursor {
     pub at: usize,
 }
 
 // What PM says.
-#[derive(Drop)]
+#[derive(Clone, Copy)]
 pub struct Parameters {
     pub n: usize,
     pub k: usize,
@@ -26,7 +26,7 @@ pub struct Parameters {
 }
 
 // Where XB and YB begin, and what follows them.
-#[derive(Drop)]
+#[derive(Clone, Copy)]
 pub struct Lists {
     pub x: usize,
     pub y: usize,
@@ -34,7 +34,7 @@ pub struct Lists {
 }
 
 // A sample's parameters, its lists, behind which RW begins, the count of RW's words, and what follows them.
-#[derive(Drop)]
+#[derive(Clone, Copy)]
 pub struct Layout {
     pub parameters: Parameters,
     pub lists: Lists,

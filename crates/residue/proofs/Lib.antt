@@ -1,1 +1,2 @@
 pub mod Wrapped
+pub mod Signed

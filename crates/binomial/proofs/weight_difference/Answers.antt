@@ -1,0 +1,20 @@
+-- The checks' verdict, and behind them the difference of the two weights.
+use mathlib.Core.Path.{sym, ap, ap₂, ◌∙◌}
+use Prim.Native.Nat.{ℕ}
+use lib.IntN.{pos, ◌-ℤ◌}
+use Rattle.residue.proofs.Signed.{read_back}
+use Rattle.checks.specs.Checks.{accepted}
+use Rattle.checks.specs.Laws.{checks_passed, checks_failed}
+use Rattle.binomial.specs.Signed.{weight_difference}
+use Rattle.binomial.proofs.weight_difference.Goals as goal
+
+pub returns-in-Failed : goal.returns-in-Failed
+unfolding weight_difference
+returns-in-Failed c = sym (checks_failed _ _ c.check_weights.ensures _ _ c.in-Failed.is)
+
+pub returns : goal.returns
+unfolding weight_difference
+returns c =
+    ap accepted (read_back c.difference.result c.difference.type_inv ∙ c.difference.ensures
+    ∙ ap₂ (λ (x y : ℕ). pos x -ℤ pos y) (c.from_u16-wx.ensures ∙ c.weight.ensures) (c.from_u16-wy.ensures ∙ c.weight-2.ensures))
+    ∙ sym (checks_passed _ _ c.check_weights.ensures _ c.in_default.is)
