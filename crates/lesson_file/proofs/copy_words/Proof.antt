@@ -1,0 +1,75 @@
+-- The first i words stand in front.
+use mathlib.Core.Path.{◌≡◌, refl, ◌∙◌}
+use Prim.Native.Nat.{◌-◌, ◌≤◌}
+use native.Mathlib.Omega.{arith}
+use lib.ListN.{length, length-set}
+use borrow.Author.Rules.{rules}
+use Rattle.buffers.specs.Overwrite.{overwrite}
+use Rattle.lesson_file.specs.Records.{words_from}
+use Rattle.lesson_file.specs.RecordLaws.{words-none, words-next, words-all}
+use Rattle.lesson_file.proofs.copy_words.Statement.{statement}
+use Rattle.lesson_file.proofs.copy_words.Tie as tie
+
+abbrev invariant-loop : tie.invariant-loop
+invariant-loop file at count words₀ i₀ words i = (i ≤ count) × (words ≡ overwrite words₀ 0 (words_from file at i)) × (length words ≡ length words₀)
+
+abbrev decreases-loop : tie.decreases-loop
+decreases-loop file at count words₀ i₀ words i = count - i
+
+loop-holds : tie.Need-loop-init invariant-loop decreases-loop
+loop-holds c = (omega arith, words-none _ _ _, refl)
+
+mul-number-at : tie.Need-overflow-mul-number-at invariant-loop decreases-loop
+mul-number-at c = search rules
+
+add-number-at : tie.Need-overflow-add-number-at invariant-loop decreases-loop
+add-number-at c = search rules
+
+number-at-requires : tie.Need-number-at-requires invariant-loop decreases-loop
+number-at-requires c κs = search rules
+
+from-u16-requires : tie.Need-from-u16-requires invariant-loop decreases-loop
+from-u16-requires c κs = search rules
+
+mul_words : tie.Need-overflow-mul-words invariant-loop decreases-loop
+mul_words c = search rules
+
+slice-write-words : tie.Need-slice-write-words invariant-loop decreases-loop
+slice-write-words c = search rules
+
+add-i : tie.Need-overflow-add-i invariant-loop decreases-loop
+add-i c = search rules
+
+loop-less : tie.Need-loop-smaller invariant-loop decreases-loop
+loop-less c = search rules
+
+loop-again : tie.Need-loop-preserved invariant-loop decreases-loop
+loop-again c =
+    let s = c.before.before.before.before.before.before.args in
+    let l = c.before.before.before.loop in
+    (omega arith, words-next _ _ s.words.now l.i _ _ l.invariant.1 (c.from-u16.ensures ∙ c.before.number_at.ensures) (omega arith), length-set l.words l.i _ ∙ l.invariant.2)
+
+same_length : tie.Need-same-length invariant-loop decreases-loop
+same_length c = search rules
+
+returns : tie.Need-returns invariant-loop decreases-loop
+returns c = words-all _ _ _ _ _ _ (omega arith) c.before.loop.invariant.1
+
+pub copy-words-spec : {M : Type 1} → statement M
+copy-words-spec =
+    tie.close
+    (tie.spec
+    invariant-loop
+    decreases-loop
+    loop-holds
+    mul-number-at
+    add-number-at
+    number-at-requires
+    from-u16-requires
+    mul_words
+    slice-write-words
+    add-i
+    loop-less
+    loop-again
+    same_length
+    returns)

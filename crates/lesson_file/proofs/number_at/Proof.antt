@@ -1,0 +1,45 @@
+-- A byte is below 256, so the number fits.
+use Prim.Native.Nat.{◌+◌}
+use native.Mathlib.Omega.{arith}
+use Rattle.lesson_file.specs.Records.{number}
+use borrow.Author.Rules.{rules}
+use Rattle.lesson_file.proofs.number_at.Statement.{statement}
+use Rattle.lesson_file.proofs.number_at.Tie as tie
+
+shared-slice-read-low : tie.Need-shared-slice-read-low
+shared-slice-read-low c = search rules
+
+cast-low : tie.Need-overflow-cast-low
+cast-low c = omega (arith, c.shared-slice-known.given c.before.args.at)
+
+add-high : tie.Need-overflow-add-high
+add-high c = search rules
+
+shared-slice-read-high : tie.Need-shared-slice-read-high
+shared-slice-read-high c = search rules
+
+cast-high : tie.Need-overflow-cast-high
+cast-high c = omega (arith, c.shared-slice-known2.given (c.before.before.args.at + 1))
+
+mul-result : tie.Need-overflow-mul-result
+mul-result c = omega (arith, c.shared-slice-known2.given c.before.before.args.at, c.shared-slice-known2.given (c.before.before.args.at + 1))
+
+add-result : tie.Need-overflow-add-result
+add-result c = omega (arith, c.shared-slice-known2.given c.before.before.args.at, c.shared-slice-known2.given (c.before.before.args.at + 1))
+
+returns : tie.Need-returns
+unfolding number
+returns c = search rules
+
+pub number-at-spec : {M : Type 1} → statement M
+number-at-spec =
+    tie.close
+    (tie.spec
+    shared-slice-read-low
+    cast-low
+    add-high
+    shared-slice-read-high
+    cast-high
+    mul-result
+    add-result
+    returns)
