@@ -26,7 +26,7 @@ bits c i l = c.bits_at-bits.ensures.same i (omega (arith, c.requires.1))
 
 made : (c : After-convert_at-p) → Same c.args.n (at c.convert_at-p.new.row) (row c.args.q c.args.n (at c.args.shares.now) ((after c.args.start (at c.args.words.now))) c.loop-bit.bit)
 made c =
-    row_from _ _ c.requires.3.large c.loop-bit.bit c.args.start _ _ _ (at c.args.words.now) _ _ (omega (arith, c.requires.0)) (bits c) c.loop-bit.invariant.1 c.convert_at-p.ensures.0
+    row_from _ _ c.requires.3.large c.loop-bit.bit c.args.start _ _ _ (at c.args.words.now) _ _ (omega (arith, c.requires.0)) (λ i l. c.bits_at-bits.ensures.same i (omega (arith, c.requires.1))) c.loop-bit.invariant.1 c.convert_at-p.ensures.0
 
 pub loop-bit-init : goal.loop-bit-init
 loop-bit-init c =
