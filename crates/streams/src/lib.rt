@@ -69,3 +69,75 @@ pub fn report_failure(rt: &(impl Eprint + AllocGlobal), what: &str, error: &io::
         Err(AllocError) => eprintln!(rt; "{what}: {error}"),
     };
 }
+
+#[cfg(test)]
+mod tests {
+    use super::*;
+    use std::io::ErrorKind;
+
+    // Gives its bytes one at a time, and then fails, or ends where it has no failure.
+    #[derive(Drop)]
+    struct Slow {
+        left: u8,
+        failure: Option<ErrorKind>,
+    }
+
+    impl Read for Slow {
+        fn read(&mut self, buf: &mut [u8]) -> io::Result<usize> {
+            if buf.is_empty() {
+                return Ok(0);
+            }
+            if self.left > 0 {
+                buf[0] = self.left;
+                self.left -= 1;
+                return Ok(1);
+            }
+            match self.failure {
+                Some(kind) => Err(io::Error::from(kind)),
+                None => Ok(0),
+            }
+        }
+    }
+
+    fn slow_reader(left: u8, failure: Option<ErrorKind>) -> Slow {
+        Slow { left, failure }
+    }
+
+    #[test]
+    fn short_reads_until_the_end(rt: HostRuntime) {
+        let mut buffer = [9u8; 4];
+        let input = read_input(&mut slow_reader(3, None), &mut buffer);
+        assert_eq!(rt; input.count, 3);
+        assert!(rt; input.failure.is_none());
+        assert!(rt; input.ended);
+        assert_eq!(rt; buffer, [3, 2, 1, 9]);
+    }
+
+    #[test]
+    fn full_buffer(rt: HostRuntime) {
+        let mut buffer = [9u8; 4];
+        let input = read_input(&mut slow_reader(5, None), &mut buffer);
+        assert_eq!(rt; input.count, 4);
+        assert!(rt; input.failure.is_none());
+        assert!(rt; !input.ended);
+        assert_eq!(rt; buffer, [5, 4, 3, 2]);
+    }
+
+    #[test]
+    fn failed_and_interrupted_reads(rt: HostRuntime) {
+        for kind in [ErrorKind::ConnectionReset, ErrorKind::Interrupted] {
+            let mut buffer = [9u8; 4];
+            let input = read_input(&mut slow_reader(3, Some(kind)), &mut buffer);
+            assert_eq!(rt; input.count, 0);
+            assert_eq!(rt; input.failure.map(|error| error.kind()), Some(kind));
+            assert!(rt; !input.ended);
+        }
+    }
+
+    #[test]
+    fn failure_in_the_systems_words(rt: HostRuntime) -> Result<(), AllocError> {
+        let words = reason(rt.alloc(), &io::Error::from_raw_os_error(21))?;
+        assert_eq!(rt; words.as_str(), "Is a directory");
+        Ok(())
+    }
+}
