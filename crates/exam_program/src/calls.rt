@@ -4,10 +4,12 @@ use binomial::SignedAnswer;
 use checks::Answer;
 use masking::{OpenedResidue, OpenedString, ResidueAnswer, StringAnswer};
 use residue::Word;
+use std::io;
 
 // The output has the n positions of the shares.
 pub fn sample(
-    letter: u8,
+    rt: &impl Print,
+    letter: char,
     n: usize,
     k: usize,
     q: Word,
@@ -15,69 +17,89 @@ pub fn sample(
     y: &[u16],
     words: &[Word],
     out: &mut [Word],
-) {
-    print::call(letter, b" sample", n, k);
-    print::modulus(q);
-    print_lists(x, y, words);
+) -> io::Result<()> {
+    print::call(rt, letter, " sample", n, k)?;
+    print::modulus(rt, q)?;
+    print_lists(rt, x, y, words)?;
     let mut work: [Word; 8] = [65535; 8];
     match sampler::sample(n, k, q, x, y, words, 0, out, &mut work) {
-        Answer::Done(count) => print_sample(count, n, q, out),
-        Answer::Refused(r) => print::refused(r),
+        Answer::Done(count) => print_sample(rt, count, n, q, out)?,
+        Answer::Refused(r) => print::refused(rt, r)?,
     }
-    print::line();
+    print::line(rt)
 }
 
-fn print_lists(x: &[u16], y: &[u16], words: &[Word]) {
-    print::shares(b" x", x);
-    print::shares(b" y", y);
-    print::words(b" words", words);
+fn print_lists(rt: &impl Print, x: &[u16], y: &[u16], words: &[Word]) -> io::Result<()> {
+    print::shares(rt, " x", x)?;
+    print::shares(rt, " y", y)?;
+    print::words(rt, " words", words)
 }
 
-fn print_sample(count: usize, n: usize, q: Word, shares: &[Word]) {
-    print::gives(count);
-    print::words(b" shares", shares);
+fn print_sample(
+    rt: &impl Print,
+    count: usize,
+    n: usize,
+    q: Word,
+    shares: &[Word],
+) -> io::Result<()> {
+    print::gives(rt, count)?;
+    print::words(rt, " shares", shares)?;
     match masking::open_residue(n, q, shares) {
         ResidueAnswer::Opened(r) => {
-            print::residue(r.0);
-            print_centred(b" centred", q, r);
+            print::residue(rt, r.0)?;
+            print_centred(rt, " centred", q, r)
         }
-        ResidueAnswer::Refused(r) => print::refused(r),
+        ResidueAnswer::Refused(r) => print::refused(rt, r),
     }
 }
 
-fn print_centred(name: &[u8], q: Word, r: OpenedResidue) {
+fn print_centred(rt: &impl Print, name: &str, q: Word, r: OpenedResidue) -> io::Result<()> {
     match binomial::centre(q, r) {
-        SignedAnswer::Value(z) => print::signed(name, z),
-        SignedAnswer::Refused(f) => print::refused(f),
+        SignedAnswer::Value(z) => print::signed(rt, name, z),
+        SignedAnswer::Refused(f) => print::refused(rt, f),
     }
 }
 
-pub fn centre(letter: u8, q: Word, r: Word) {
-    print::text(&[letter]);
-    print::text(b" centre");
-    print::modulus(q);
-    print::residue(r);
-    print_centred(b" gives", q, OpenedResidue(r));
-    print::line();
+pub fn centre(rt: &impl Print, letter: char, q: Word, r: Word) -> io::Result<()> {
+    print::letter(rt, letter)?;
+    print::text(rt, " centre")?;
+    print::modulus(rt, q)?;
+    print::residue(rt, r)?;
+    print_centred(rt, " gives", q, OpenedResidue(r))?;
+    print::line(rt)
 }
 
 // The output has the n positions of the shares.
-pub fn mask(letter: u8, n: usize, k: usize, value: u16, masks: &[u16], out: &mut [u16]) {
-    print::call(letter, b" mask", n, k);
-    print::field(b" value", value as usize);
-    print::shares(b" masks", masks);
+pub fn mask(
+    rt: &impl Print,
+    letter: char,
+    n: usize,
+    k: usize,
+    value: u16,
+    masks: &[u16],
+    out: &mut [u16],
+) -> io::Result<()> {
+    print::call(rt, letter, " mask", n, k)?;
+    print::field(rt, " value", value as usize)?;
+    print::shares(rt, " masks", masks)?;
     match masking::mask(n, k, OpenedString(value), masks, out) {
-        Answer::Done(count) => print_masked(count, n, k, out),
-        Answer::Refused(r) => print::refused(r),
+        Answer::Done(count) => print_masked(rt, count, n, k, out)?,
+        Answer::Refused(r) => print::refused(rt, r)?,
     }
-    print::line();
+    print::line(rt)
 }
 
-fn print_masked(count: usize, n: usize, k: usize, shares: &[u16]) {
-    print::gives(count);
-    print::shares(b" shares", shares);
+fn print_masked(
+    rt: &impl Print,
+    count: usize,
+    n: usize,
+    k: usize,
+    shares: &[u16],
+) -> io::Result<()> {
+    print::gives(rt, count)?;
+    print::shares(rt, " shares", shares)?;
     match masking::open_string(n, k, shares) {
-        StringAnswer::Opened(s) => print::field(b" opened", s.0 as usize),
-        StringAnswer::Refused(r) => print::refused(r),
+        StringAnswer::Opened(s) => print::field(rt, " opened", s.0 as usize),
+        StringAnswer::Refused(r) => print::refused(rt, r),
     }
 }

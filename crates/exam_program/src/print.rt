@@ -1,75 +1,81 @@
 // Fields of a line, each with a space before it.
 use checks::Refusal;
-use libc::STDOUT_FILENO;
 use residue::Word;
+use std::io;
 
-pub fn text(s: &[u8]) {
-    io::write_all(STDOUT_FILENO, s);
+pub fn text(rt: &impl Print, s: &str) -> io::Result<()> {
+    rt.print(s)
 }
 
-pub fn line() {
-    text(b"\n");
+pub fn letter(rt: &impl Print, letter: char) -> io::Result<()> {
+    rt.print(letter)
 }
 
-pub fn decimal(x: usize) {
-    io::print_decimal(STDOUT_FILENO, x as u64);
+pub fn line(rt: &impl Print) -> io::Result<()> {
+    text(rt, "\n")
 }
 
-pub fn number(x: usize) {
-    text(b" ");
-    decimal(x);
+pub fn decimal(rt: &impl Print, x: usize) -> io::Result<()> {
+    rt.print(x)
 }
 
-pub fn field(name: &[u8], x: usize) {
-    text(name);
-    number(x);
+pub fn number(rt: &impl Print, x: usize) -> io::Result<()> {
+    text(rt, " ")?;
+    decimal(rt, x)
+}
+
+pub fn field(rt: &impl Print, name: &str, x: usize) -> io::Result<()> {
+    text(rt, name)?;
+    number(rt, x)
 }
 
 // How a line begins that has a call with n and k.
-pub fn call(letter: u8, name: &[u8], n: usize, k: usize) {
-    text(&[letter]);
-    text(name);
-    field(b" n", n);
-    field(b" k", k);
+pub fn call(rt: &impl Print, value: char, name: &str, n: usize, k: usize) -> io::Result<()> {
+    letter(rt, value)?;
+    text(rt, name)?;
+    field(rt, " n", n)?;
+    field(rt, " k", k)
 }
 
-pub fn modulus(q: Word) {
-    field(b" q", residue::to_usize(q));
+pub fn modulus(rt: &impl Print, q: Word) -> io::Result<()> {
+    field(rt, " q", residue::to_usize(q))
 }
 
-pub fn residue(r: Word) {
-    field(b" residue", residue::to_usize(r));
+pub fn residue(rt: &impl Print, r: Word) -> io::Result<()> {
+    field(rt, " residue", residue::to_usize(r))
 }
 
-pub fn gives(count: usize) {
-    field(b" gives", count);
+pub fn gives(rt: &impl Print, count: usize) -> io::Result<()> {
+    field(rt, " gives", count)
 }
 
-pub fn shares(name: &[u8], list: &[u16]) {
-    text(name);
-    for i in 0..list.len() {
-        number(list[i] as usize);
+pub fn shares(rt: &impl Print, name: &str, list: &[u16]) -> io::Result<()> {
+    text(rt, name)?;
+    for share in list {
+        number(rt, *share as usize)?;
     }
+    Ok(())
 }
 
-pub fn words(name: &[u8], list: &[Word]) {
-    text(name);
-    for i in 0..list.len() {
-        number(residue::to_usize(list[i]));
+pub fn words(rt: &impl Print, name: &str, list: &[Word]) -> io::Result<()> {
+    text(rt, name)?;
+    for word in list {
+        number(rt, residue::to_usize(*word))?;
     }
+    Ok(())
 }
 
-pub fn signed(name: &[u8], z: i32) {
-    text(name);
+pub fn signed(rt: &impl Print, name: &str, z: i32) -> io::Result<()> {
+    text(rt, name)?;
     if z < 0 {
-        text(b" -");
+        text(rt, " -")?;
     } else {
-        text(b" ");
+        text(rt, " ")?;
     }
-    decimal(residue::magnitude(z) as usize);
+    decimal(rt, residue::magnitude(z) as usize)
 }
 
-pub fn refused(r: Refusal) {
-    field(b" refused", r.code as usize);
-    number(r.position);
+pub fn refused(rt: &impl Print, r: Refusal) -> io::Result<()> {
+    field(rt, " refused", r.code as usize)?;
+    number(rt, r.position)
 }
