@@ -1,4 +1,4 @@
-.PHONY: help lesson report exam steps lib install uninstall bench test clean always
+.PHONY: help lesson report exam steps lib install uninstall bench test tests clean always
 .NOTPARALLEL:
 .DELETE_ON_ERROR:
 unexport CDPATH
@@ -18,18 +18,18 @@ help:
 	@echo 'make install    installs these and a pkg-config file below PREFIX, here $(PREFIX); DESTDIR goes before it'
 	@echo 'make uninstall  removes what make install installs'
 	@echo 'make bench      samples, step records, polynomials, the split of noise and converted values beside plain and careful C'
-	@echo 'make clean      removes target/ and build/'
+	@echo 'make clean      removes target/, build/ and what is proved and built in the crates'
 
 lesson:
-	@tools/prove check lesson_program
+	@tools/prove run lesson_program
 	@target/bin/lesson_program <examples/document01.lesson
 
 report:
-	@tools/prove check report_program
+	@tools/prove run report_program
 	@target/bin/report_program <examples/ml_kem_k3.lesson
 
 exam:
-	@tools/prove check exam_program
+	@tools/prove run exam_program
 	@target/bin/exam_program
 
 steps: lib
@@ -42,11 +42,11 @@ steps: lib
 
 lib: $(library) $(header)
 
-# Made anew where a file changes, comes or goes (which changes its folder), or the toolchain does.
-$(library): build/toolchain crates.txt $(shell find crates -name '*.rt' -o -name '*.antt' -o -type d)
-	@tools/prove staticlib capi
+# Made anew where a file changes, comes or goes (which changes its folder), or the toolchain does. In out/ is what rt makes.
+$(library): build/toolchain crates.txt $(shell find crates -mindepth 2 -name out -prune -o \( -name '*.rt' -o -name '*.antt' -o -type d \) -print)
+	@tools/prove lib capi
 	@mkdir -p $(@D)
-	@cp target/staticlib/libcapi.a $@
+	@cp crates/capi/out/libcapi.a $@
 
 build/toolchain: always
 	@mkdir -p $(@D)
@@ -67,13 +67,18 @@ uninstall:
 bench: lib
 	@bench/run
 
-# The programs and what the library is made of come first, in an order in which crates that take about as long are proved side by side; the tests
-# find all below them proved. rt ci, whose last line is the last of all, starts from nothing.
-test:
-	@tools/prove fmt --check
+# rt ci comes last, and its last line is the last of all. It takes nothing from what is proved for the tests.
+test: tests
+	@tools/prove ci
+
+# The library comes first, and with it nearly all that the programs stand on.
+tests:
+	@tools/prove version
 	@tools/setup
-	@tools/prove check lesson_file conversion values noise lesson_program exam_program polynomial report_program
 	@$(MAKE) --silent --no-print-directory lib
+	@tools/prove run lesson_program
+	@tools/prove run report_program
+	@tools/prove run exam_program
 	tests/docs
 	tests/setup
 	tests/compile_refusals
@@ -87,7 +92,6 @@ test:
 	tests/header
 	tests/beside tests/install tests/machine_code
 	tests/beside tests/library tests/c_client
-	@tools/prove ci
 
 clean:
-	rm -rf target build
+	rm -rf target build crates/*/out
