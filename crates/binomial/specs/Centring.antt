@@ -8,8 +8,8 @@ use Rattle.std.proofs.Math.Decide.{dec_le}
 use borrow.Author.Tests.{ltb-true, lt-ltb, le-leb, lt-leb}
 use Rattle.std.proofs.Math.IntN.{negsuc}
 use Rattle.residue.specs.Residue.{reduce, reduceℤ}
-use Rattle.residue.specs.Laws.{reduce-small, neg_small, sub_plus}
-use Rattle.residue.specs.Integers.{minus-below, reduceℤ_lt, reduceℤ-minus}
+use Rattle.residue.proofs.Laws.{reduce-small, neg_small, sub_plus}
+use Rattle.residue.proofs.Integers.{minus-below, reduceℤ_lt, reduceℤ-minus}
 use Rattle.checks.specs.Checks.{accepted}
 use Rattle.checks.specs.Laws.{accepts, accepted-holds, accepted-answer}
 use Rattle.binomial.specs.Signed.{centred_value, centre_checks, centred}

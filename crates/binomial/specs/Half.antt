@@ -6,7 +6,7 @@ use Rattle.std.proofs.Math.Decide.{dec_le}
 use borrow.Author.Tests.{lt-ltb, le-ltb, le-leb, lt-leb}
 use Rattle.std.proofs.Math.IntN.{pos, pos-ne-negsuc}
 use Rattle.residue.specs.Residue.{reduceℤ}
-use Rattle.residue.specs.Integers.{minus-below}
+use Rattle.residue.proofs.Integers.{minus-below}
 use Rattle.checks.specs.Checks.{Verdict, accepted, verdict}
 use Rattle.checks.specs.Laws.{leb_same, accepts, fail, same_answer}
 use Rattle.binomial.specs.Signed.{centre_checks, centred}

@@ -5,8 +5,8 @@ use Rattle.std.proofs.Common.{ap, ◌∙◌, arith, pow_mono}
 use Rattle.std.specs.Int.Count.{ones, ones_step}
 use Rattle.std.proofs.lemmas.Nat.{ones-le}
 use Rattle.residue.specs.Residue.{total, reduce, add, sum}
-use Rattle.residue.specs.Laws.{reduce_zero, reduce_plus, add-reduce-left}
-use Rattle.residue.specs.Sum.{sum-last}
+use Rattle.residue.proofs.Laws.{reduce_zero, reduce_plus, add-reduce-left}
+use Rattle.residue.proofs.Sum.{sum-last}
 use Rattle.buffers.specs.Positions.{table}
 use Rattle.checks.specs.Width.{bit, bit-lowest, bit-shift}
 use Rattle.checks.specs.FromBits.{from_bits, AreBits}

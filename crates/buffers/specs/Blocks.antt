@@ -9,7 +9,7 @@ use native.Mathlib.Omega.{arith}
 use Rattle.std.proofs.Math.ListN.{length, take, drop, length-take, length-drop, drop_of_length-le, get_or-eq_default}
 use Rattle.std.proofs.Math.Seq.{get_or-take, get_or-drop, length-take-le, take-nil, drop-drop}
 use Rattle.residue.specs.Residue.{EachBelow}
-use Rattle.residue.specs.Sum.{each-below-take, each-below-drop}
+use Rattle.residue.proofs.Sum.{each-below-take, each-below-drop}
 use Rattle.buffers.specs.Overwrite.{overwrite}
 use Rattle.buffers.specs.Positions.{at, table, rows, block}
 use Rattle.buffers.specs.PositionLaws.{length-table}

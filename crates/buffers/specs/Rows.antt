@@ -5,7 +5,7 @@ use Rattle.std.proofs.Common.{ap, ap₂, ◌∙◌, append_assoc, append-nil, su
 use Rattle.std.proofs.Math.Nat as N
 use Rattle.std.proofs.Math.ListN.{get_or-append}
 use Rattle.residue.specs.Residue.{EachBelow}
-use Rattle.residue.specs.Sum.{each-below-append}
+use Rattle.residue.proofs.Sum.{each-below-append}
 use Rattle.buffers.specs.Overwrite.{overwrite}
 use Rattle.buffers.specs.Laws.{length-overwrite, overwrite-none, overwrite-append, front_snoc}
 use Rattle.buffers.specs.Positions.{at, table, rows, Same, Below}

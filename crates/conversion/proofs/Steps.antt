@@ -7,8 +7,8 @@ use native.Mathlib.Omega.{arith}
 use lib.ListN.{length, set, drop, replicate, length-set}
 use lib.Seq.{get_or-set_same, get_or-set_other, get_or-drop}
 use Rattle.residue.specs.Residue.{sub, neg, add, sum, cswap_sub}
-use Rattle.residue.specs.Laws.{reduce-small, reduce-add, add_zero, add_comm, add_assoc, add_lt, neg-sub, sub_zero}
-use Rattle.residue.specs.Sum.{running_none, running_next, running_all, sum-last, sum_lt}
+use Rattle.residue.proofs.Laws.{reduce-small, reduce-add, add_zero, add_comm, add_assoc, add_lt, neg-sub, sub_zero}
+use Rattle.residue.proofs.Sum.{running_none, running_next, running_all, sum-last, sum_lt}
 use Rattle.buffers.specs.Positions.{at, table, after, Same, Below}
 use Rattle.buffers.specs.PositionLaws.{table_same, after-after, set_agrees}
 use Rattle.checks.specs.Width.{bit-lowest}

@@ -3,8 +3,8 @@ use Rattle.std.specs.Prelude.{◌≡◌, refl, ℕ, ◌+◌, ◌<◌, length, ta
 use Rattle.std.proofs.Common.{sym, ap, ◌∙◌, le_refl, one-mul, arith, take-take}
 use mathlib.Core.List.{List, [], ◌∷◌, ◌++◌}
 use Rattle.residue.specs.Residue.{reduce, total, EachBelow}
-use Rattle.residue.specs.Laws.{reduce-small}
-use Rattle.residue.specs.Sum.{sum_cong, sum_list}
+use Rattle.residue.proofs.Laws.{reduce-small}
+use Rattle.residue.proofs.Sum.{sum_cong, sum_list}
 use Rattle.buffers.specs.Positions.{at}
 use Rattle.buffers.specs.PositionLaws.{length-table, table_at, table_below, table_same, table_list, take_same}
 use Rattle.checks.specs.Checks.{verdict, share_count, string_length, output_checks}

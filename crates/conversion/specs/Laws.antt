@@ -7,8 +7,8 @@ use Rattle.std.proofs.Math.Decide.{dec_lt}
 use native.Mathlib.Omega.{arith}
 use Rattle.std.specs.Int.Bits.{bit_xor, xor_self, xor_zero_r}
 use Rattle.residue.specs.Residue.{reduce, add, neg, sub, sum}
-use Rattle.residue.specs.Laws.{reduce-small, reduce_zero, reduce-reduce, reduce-add, reduce-neg, reduce_plus, add-reduce-left, neg-reduce, add_comm, add_assoc, add_left_comm, add_zero, zero_add, reduce_lt, add_lt, add-neg, neg_zero, neg-add}
-use Rattle.residue.specs.Sum.{sum_cong, sum_lt, reduce-sum, sum-reduce, sum-last, sum-add, sum-neg}
+use Rattle.residue.proofs.Laws.{reduce-small, reduce_zero, reduce-reduce, reduce-add, reduce-neg, reduce_plus, add-reduce-left, neg-reduce, add_comm, add_assoc, add_left_comm, add_zero, zero_add, reduce_lt, add_lt, add-neg, neg_zero, neg-add}
+use Rattle.residue.proofs.Sum.{sum_cong, sum_lt, reduce-sum, sum-reduce, sum-last, sum-add, sum-neg}
 use Rattle.buffers.specs.Positions.{table, after, Same, Below}
 use Rattle.buffers.specs.PositionLaws.{table_below, table-last}
 use Rattle.masking.specs.Sharing.{xor_all}

@@ -3,7 +3,7 @@ use Rattle.std.specs.Prelude.{refl, ◌≢◌, ℕ, ◌+◌, ◌≤◌, ◌<◌}
 use Rattle.std.proofs.Common.{◌∙◌, arith}
 use Rattle.std.proofs.Math.Path.{fun_ext}
 use Rattle.residue.specs.Residue.{add}
-use Rattle.residue.specs.Laws.{reduce-add, add_assoc}
+use Rattle.residue.proofs.Laws.{reduce-add, add_assoc}
 use Rattle.buffers.specs.Positions.{after, join, Same}
 use Rattle.buffers.specs.PositionLaws.{after-after, join_from}
 use Rattle.secrecy.specs.Translation.{moved, Translation, Equivariant, Within, before-stays, within-opposite, within-join}

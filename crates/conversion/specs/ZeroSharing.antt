@@ -8,8 +8,8 @@ use Rattle.std.proofs.Math.Nat as N
 use native.Mathlib.Omega.{arith}
 use borrow.Author.Tests.{eq-eqb, ne_eqb}
 use Rattle.residue.specs.Residue.{reduce, add, neg, sub, sum}
-use Rattle.residue.specs.Laws.{reduce_zero, reduce-reduce, reduce-add, reduce-neg, add_comm, add_assoc, add_left_comm, zero_add, add_zero, add_lt, add-neg, neg_zero, neg-neg, neg-add}
-use Rattle.residue.specs.Sum.{sum_cong, sum_zero, sum-add, sum-neg, sum_one}
+use Rattle.residue.proofs.Laws.{reduce_zero, reduce-reduce, reduce-add, reduce-neg, add_comm, add_assoc, add_left_comm, zero_add, add_zero, add_lt, add-neg, neg_zero, neg-neg, neg-add}
+use Rattle.residue.proofs.Sum.{sum_cong, sum_zero, sum-add, sum-neg, sum_one}
 use Rattle.buffers.specs.Positions.{after, join, Same, Below}
 use Rattle.buffers.specs.PositionLaws.{join-below, join_from}
 use Rattle.conversion.specs.Conversion.{pairs, transfer, refresh_share, refresh_from, refresh}

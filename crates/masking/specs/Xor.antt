@@ -7,7 +7,7 @@ use Rattle.std.proofs.Math.Arith.{bin_ind}
 use Rattle.std.specs.Int.Bits.{bit_xor, xor_add_and, xor_self, xor_zero_r}
 use Rattle.std.proofs.lemmas.Nat.{xor_shr, xor_mod, xor_comm, xor_lt, xor_block}
 use Rattle.residue.specs.Residue.{reduce, add, EachBelow}
-use Rattle.residue.specs.Laws.{add_assoc, add-reduce-left, add-reduce_right}
+use Rattle.residue.proofs.Laws.{add_assoc, add-reduce-left, add-reduce_right}
 use Rattle.buffers.specs.Positions.{at, table}
 use Rattle.buffers.specs.PositionLaws.{length-table, table_at, table_below, table_same}
 use Rattle.checks.specs.Width.{bit}

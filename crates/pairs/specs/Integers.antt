@@ -3,7 +3,7 @@ use Rattle.std.specs.Prelude.{◌≡◌, refl, Bool, true, false, ℕ, suc, ◌+
 use Rattle.std.proofs.Common.{sym, ap, ◌∙◌, arith, eqb-true, eq-eqb}
 use Rattle.std.proofs.lemmas.Bool.{false≢true}
 use Rattle.std.proofs.Math.IntN.{suc_ℤ, pred_ℤ, suc-pred, pred-suc, -ℤ-+ℤ_cancel}
-use Rattle.residue.specs.Integers.{minus-above, minus-below}
+use Rattle.residue.proofs.Integers.{minus-above, minus-below}
 use Rattle.pairs.specs.Pairs.{sameℤ}
 
 -- ---- the test holds where two integers are equal, and only there

@@ -8,7 +8,7 @@ use Rattle.std.specs.Int.Count.{ones, ones-ones}
 use Rattle.std.proofs.lemmas.Nat.{ones_cat}
 use Rattle.std.proofs.Math.IntN.{suc_ℤ, pred_ℤ, pred-suc}
 use Rattle.residue.specs.Residue.{total}
-use Rattle.residue.specs.Integers.{minus_le, minus-suc-left, minus-suc_right}
+use Rattle.residue.proofs.Integers.{minus_le, minus-suc-left, minus-suc_right}
 use Rattle.buffers.specs.Positions.{table}
 use Rattle.binomial.specs.Signed.{bit_sum, weight, difference_of_weights}
 use Rattle.binomial.specs.Weight.{ones_weight, weight_le}

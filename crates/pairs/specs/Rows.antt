@@ -4,7 +4,7 @@ use Rattle.std.proofs.Common.{sym, ap, ap₂, ◌∙◌}
 use Prim.Native.Nat.{ℕ, suc, ◌+◌, ◌*◌, ◌^◌, ◌≤◌, ◌<◌}
 use native.Mathlib.Omega.{arith}
 use Rattle.std.proofs.Math.IntN.{pos, suc_ℤ, pred_ℤ, suc-pred, pred-suc}
-use Rattle.residue.specs.Integers.{minus-suc-left, minus-suc_right}
+use Rattle.residue.proofs.Integers.{minus-suc-left, minus-suc_right}
 use Rattle.buffers.specs.Positions.{at, table, Same, Below}
 use Rattle.buffers.specs.PositionLaws.{table_at, table_same, table-last}
 use Rattle.pairs.specs.Pairs.{sameℤ, indicator, pairs}

@@ -3,7 +3,7 @@ use Rattle.std.specs.Prelude.{◌≡◌, Bool, true, false, not, List, [], ◌�
 use Rattle.std.proofs.Math.Decide.{dec_le, ℕ_discrete}
 use Rattle.std.proofs.Common.{add-one, arith, length-append}
 use Rattle.std.proofs.lemmas.List.{length-map}
-use Rattle.residue.specs.Integers.{minus-above, minus-below}
+use Rattle.residue.proofs.Integers.{minus-above, minus-below}
 use Rattle.buffers.specs.Positions.{at}
 use Rattle.checks.specs.Checks.{Verdict, accepted, refused}
 use Rattle.pairs.specs.Pairs.{pairs}

@@ -1,2 +1,5 @@
+pub mod Laws
+pub mod Sum
+pub mod Integers
 pub mod Wrapped
 pub mod Signed

@@ -12,7 +12,7 @@ use mir.Val.{Fits, SFits, to_z, of_z}
 use mir.Facts.{to_z_pos, to_z-of_z, sfits_widen}
 use borrow.Author.Rules.{sfits_of}
 use borrow.Author.Tests.{ltb-true}
-use Rattle.residue.specs.Integers.{minus-above, minus-below}
+use Rattle.residue.proofs.Integers.{minus-above, minus-below}
 
 module _ (a b : ℕ) (ha : a < 2 ^ 31) (hb : b < 2 ^ 31) where
   pub as_i32 : to_z w32 a -ℤ to_z w32 b ≡ pos a -ℤ pos b

@@ -6,7 +6,7 @@ use native.Mathlib.Omega.{arith}
 use native.Mathlib.Decide.{dec_le}
 use lib.Bits.{bit_and, bit_xor, and_mask, mask_lt, xor_add_and, xor_zero_r}
 use Rattle.residue.specs.Residue.{reduce, sub, cswap_sub}
-use Rattle.residue.specs.Laws.{reduce-modulus_plus, sub_unique}
+use Rattle.residue.proofs.Laws.{reduce-modulus_plus, sub_unique}
 
 -- ---- the 32-bit difference, and its negative where `swap` is 1: every bit flipped, and 1 added
 

@@ -1,4 +1,1 @@
 pub mod Residue
-pub mod Laws
-pub mod Sum
-pub mod Integers

@@ -3,8 +3,8 @@ use Rattle.std.specs.Prelude.{◌≡◌, List, ℕ, ◌+◌, ◌<◌, length, ta
 use Rattle.std.proofs.Math.Path.{refl}
 use Rattle.std.proofs.Common.{sym, ap, ◌∙◌, le_refl, arith, take-take}
 use Rattle.residue.specs.Residue.{reduce, reduceℤ, total, EachBelow}
-use Rattle.residue.specs.Integers.{reduceℤ-minus}
-use Rattle.residue.specs.Sum.{sum_cong, sum_list}
+use Rattle.residue.proofs.Integers.{reduceℤ-minus}
+use Rattle.residue.proofs.Sum.{sum_cong, sum_list}
 use Rattle.buffers.specs.Overwrite.{overwrite}
 use Rattle.buffers.specs.Positions.{at, Same}
 use Rattle.buffers.specs.PositionLaws.{length-table, table_at, table_below, table_same, take_same}

@@ -3,8 +3,8 @@ use Rattle.std.specs.Prelude.{◌≡◌, List, ℕ, ◌+◌, ◌*◌, ◌^◌, �
 use Rattle.std.proofs.Common.{sym, ◌∙◌, arith}
 use Rattle.std.proofs.Math.Path.{ap, ap₂}
 use Rattle.residue.specs.Residue.{reduce, add, neg, sub, sum, EachBelow}
-use Rattle.residue.specs.Laws.{add_lt, sub-reduce}
-use Rattle.residue.specs.Sum.{sum_cong, sum-reduce, sum-add, sum-neg, sum_swap}
+use Rattle.residue.proofs.Laws.{add_lt, sub-reduce}
+use Rattle.residue.proofs.Sum.{sum_cong, sum-reduce, sum-add, sum-neg, sum_swap}
 use Rattle.buffers.specs.Positions.{at, after, Same}
 use Rattle.checks.specs.Width.{bit}
 use Rattle.masking.specs.Sharing.{xor_all}

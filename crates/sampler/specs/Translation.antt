@@ -3,8 +3,8 @@ use Rattle.std.proofs.Math.Path.{ap, ap₂}
 use Rattle.std.proofs.Common.{◌∙◌, arith}
 use Prim.Native.Nat.{ℕ, suc, ◌+◌, ◌*◌, ◌≤◌, ◌<◌}
 use Rattle.residue.specs.Residue.{add, sub, sum}
-use Rattle.residue.specs.Laws.{add_assoc}
-use Rattle.residue.specs.Sum.{sum_cong}
+use Rattle.residue.proofs.Laws.{add_assoc}
+use Rattle.residue.proofs.Sum.{sum_cong}
 use Rattle.buffers.specs.Positions.{after, Same}
 use Rattle.secrecy.specs.Translation.{Invariant}
 use Rattle.conversion.specs.Conversion.{bits_at, bit_words, row}

@@ -5,7 +5,7 @@ use Rattle.std.proofs.Common.{subst, ◌∙◌, suc-le-suc, not-suc-le-zero, le_
 use mathlib.Core.List.{List, ◌++◌}
 use Rattle.std.proofs.Math.ListN.{take-append-drop}
 use Rattle.std.proofs.Math.Seq.{take_at, drop_at}
-use Rattle.residue.specs.Sum.{each-below-take, each-below-drop, each-below-append}
+use Rattle.residue.proofs.Sum.{each-below-take, each-below-drop, each-below-append}
 use Rattle.buffers.specs.Positions.{block}
 use Rattle.buffers.specs.Blocks.{block-first, block-next}
 use Rattle.secrecy.specs.Secrecy.{Full, OneToOne, Indistinguishable}

@@ -5,7 +5,7 @@ use Rattle.std.specs.Prelude.{◌≡◌, ℕ, ◌+◌, ◌-◌, ◌≤◌, ◌<�
 use Rattle.std.proofs.Math.Path.{sym, ap, fun_ext}
 use Rattle.std.proofs.Common.{◌∙◌, arith}
 use Rattle.residue.specs.Residue.{reduce, add, neg, sub}
-use Rattle.residue.specs.Laws.{add_comm, add_assoc, zero_add, add_zero, reduce-add, add-reduce_right, reduce_zero, add_lt, neg_zero, sub-shift, add-sub, sub-add, add_sub_cancel}
+use Rattle.residue.proofs.Laws.{add_comm, add_assoc, zero_add, add_zero, reduce-add, add-reduce_right, reduce_zero, add_lt, neg_zero, sub-shift, add-sub, sub-add, add_sub_cancel}
 use Rattle.buffers.specs.Positions.{at, after, join, Same}
 use Rattle.buffers.specs.PositionLaws.{join-below, join_from}
 use Rattle.secrecy.specs.Secrecy.{Full, Indistinguishable, AlikeIn}

@@ -6,7 +6,7 @@ use Prim.Native.Nat.{ℕ, ◌≤◌, ◌<◌}
 use Rattle.std.proofs.Math.Decide.{dec_lt}
 use Rattle.std.proofs.Math.ListN.{get_or-eq_default}
 use Rattle.residue.specs.Residue.{reduce}
-use Rattle.residue.specs.Laws.{reduce-small, reduce_zero}
+use Rattle.residue.proofs.Laws.{reduce-small, reduce_zero}
 use Rattle.buffers.specs.Positions.{at, table}
 use Rattle.buffers.specs.PositionLaws.{length-table, table_below, table_list, list_table}
 use Rattle.secrecy.specs.Secrecy.{Full, OneToOne}

@@ -4,8 +4,8 @@ use mathlib.Core.List.{List, [], ◌∷◌}
 use Prim.Native.Nat.{ℕ, zero, suc, suc-le-suc, ◌+◌, ◌*◌, ◌≤◌, ◌<◌}
 use Rattle.std.proofs.Common.{not-suc-le-zero, le_of_suc-le-suc, arith}
 use Rattle.residue.specs.Residue.{EachBelow}
-use Rattle.residue.specs.Laws.{add_lt, mul_lt}
-use Rattle.residue.specs.Sum.{each-below-append}
+use Rattle.residue.proofs.Laws.{add_lt, mul_lt}
+use Rattle.residue.proofs.Sum.{each-below-append}
 use Rattle.buffers.specs.Positions.{at, Below}
 use Rattle.checks.specs.Width.{bit_lt}
 use Rattle.conversion.specs.Laws.{pairs-most, extend_lt, convert_lt}

@@ -6,7 +6,7 @@ use lib.Signed.{mag}
 use mir.Syntax.{w32}
 use mir.Val.{SFits}
 use borrow.Author.Rules.{sfits_of}
-use Rattle.residue.specs.Integers.{nat_abs_plus}
+use Rattle.residue.proofs.Integers.{nat_abs_plus}
 
 mag_le : (z : ℤ) → mag z ≤ nat_abs z
 mag_le (pos n) = omega arith

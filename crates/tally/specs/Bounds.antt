@@ -3,7 +3,7 @@ use Rattle.std.specs.Prelude.{List, [], ◌∷◌, ℕ, ◌*◌, ◌^◌, ◌≤
 use Rattle.std.proofs.Math.Nat as N
 use Rattle.std.proofs.Common.{arith}
 use Rattle.residue.specs.Residue.{total}
-use Rattle.residue.specs.Integers.{nat_abs_plus}
+use Rattle.residue.proofs.Integers.{nat_abs_plus}
 use Rattle.buffers.specs.Positions.{at, Below}
 use Rattle.buffers.specs.PositionLaws.{table_at}
 use Rattle.pairs.specs.Pairs.{sameℤ}

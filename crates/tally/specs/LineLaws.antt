@@ -8,7 +8,7 @@ use native.Mathlib.Omega.{arith}
 use Rattle.std.proofs.Math.Dec.{eqb-suc-zero}
 use Rattle.std.proofs.Math.IntN.{+ℤ_idl, zero-*ℤ}
 use Rattle.residue.specs.Residue.{total}
-use Rattle.residue.specs.Integers.{minus_plus, minus_times}
+use Rattle.residue.proofs.Integers.{minus_plus, minus_times}
 use Rattle.buffers.specs.Positions.{at, table}
 use Rattle.pairs.specs.Pairs.{indicator, sum_to}
 use Rattle.pairs.specs.Sums.{sum_same, sum_zero, sum_plus, sum_pick}

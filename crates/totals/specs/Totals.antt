@@ -4,8 +4,8 @@ use Rattle.std.proofs.Math.Path.{refl, sym, ap, ap₂}
 use Rattle.std.proofs.Common.{◌∙◌, add-one}
 use Rattle.std.proofs.Math.Bool.{true, false}
 use Rattle.residue.specs.Residue.{add, sub, sum}
-use Rattle.residue.specs.Laws.{reduce-small, add_assoc, zero_add, add_zero, add_lt, neg_zero, neg-add}
-use Rattle.residue.specs.Sum.{sum_cong, sum_lt, reduce-sum, sum-last}
+use Rattle.residue.proofs.Laws.{reduce-small, add_assoc, zero_add, add_zero, add_lt, neg_zero, neg-add}
+use Rattle.residue.proofs.Sum.{sum_cong, sum_lt, reduce-sum, sum-last}
 use Rattle.buffers.specs.Overwrite.{overwrite}
 use Rattle.buffers.specs.Positions.{at, table, after, Same, Below}
 use Rattle.buffers.specs.PositionLaws.{after-at, drop-after, table_same, front_at, front-values, front-twice}

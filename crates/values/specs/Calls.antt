@@ -5,7 +5,7 @@ use Rattle.std.proofs.Common.{◌∙◌, le_refl, arith, le-leb, eq-eqb, take-ta
 use Rattle.std.proofs.Math.Nat.{mul-le-mul}
 use Rattle.std.proofs.Math.ListN.{length}
 use Rattle.residue.specs.Residue.{reduce, total, EachBelow}
-use Rattle.residue.specs.Sum.{sum_cong, sum_list}
+use Rattle.residue.proofs.Sum.{sum_cong, sum_list}
 use Rattle.buffers.specs.Positions.{at, table, after, Same}
 use Rattle.buffers.specs.PositionLaws.{length-table, table_at, table_below, table_same, take_same}
 use Rattle.checks.specs.Checks.{accepted, verdict, is_none}

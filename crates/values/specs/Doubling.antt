@@ -6,8 +6,8 @@ use Prim.Native.Nat.{ℕ, zero, suc, ◌+◌, ◌-◌, ◌*◌, ◌%◌, ◌^◌
 use Rattle.std.proofs.Math.Nat.{pow-suc}
 use native.Mathlib.Omega.{arith}
 use Rattle.residue.specs.Residue.{reduce, add, mul, sum}
-use Rattle.residue.specs.Laws.{reduce_zero, reduce_plus, add_comm, add-reduce-left, add-reduce_right, one-mul, mul_times}
-use Rattle.residue.specs.Sum.{sum_cong, sum-mul, sum_lt}
+use Rattle.residue.proofs.Laws.{reduce_zero, reduce_plus, add_comm, add-reduce-left, add-reduce_right, one-mul, mul_times}
+use Rattle.residue.proofs.Sum.{sum_cong, sum-mul, sum_lt}
 use Rattle.buffers.specs.Positions.{after}
 use Rattle.buffers.specs.PositionLaws.{after_zero}
 use Rattle.checks.specs.Width.{bit}

@@ -3,8 +3,8 @@ use Rattle.std.specs.Prelude.{◌≡◌, List, ℕ, ◌^◌, ◌<◌, length}
 use Rattle.std.proofs.Math.Path.{ap}
 use Rattle.std.proofs.Common.{◌∙◌, mod-eq_of_lt, arith}
 use Rattle.residue.specs.Residue.{reduce, mul, sum, EachBelow}
-use Rattle.residue.specs.Laws.{mul-reduce}
-use Rattle.residue.specs.Sum.{sum_cong, sum-mul, sum_swap}
+use Rattle.residue.proofs.Laws.{mul-reduce}
+use Rattle.residue.proofs.Sum.{sum_cong, sum-mul, sum_swap}
 use Rattle.buffers.specs.Positions.{at, Same}
 use Rattle.checks.specs.Width.{bit}
 use Rattle.masking.specs.Sharing.{xor_all}

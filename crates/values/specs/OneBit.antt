@@ -5,7 +5,7 @@ use Rattle.std.proofs.Common.{◌∙◌}
 use mathlib.Core.List.{List, []}
 use native.Mathlib.Omega.{arith}
 use Rattle.residue.specs.Residue.{add, sum}
-use Rattle.residue.specs.Laws.{reduce-small, reduce-reduce, add_zero, one-mul}
+use Rattle.residue.proofs.Laws.{reduce-small, reduce-reduce, add_zero, one-mul}
 use Rattle.buffers.specs.Overwrite.{overwrite}
 use Rattle.buffers.specs.Positions.{at, Same}
 use Rattle.buffers.specs.PositionLaws.{table_same}

@@ -3,8 +3,8 @@ use Rattle.std.proofs.Math.Path.{ap}
 use Rattle.std.proofs.Common.{◌∙◌}
 use Prim.Native.Nat.{ℕ, suc, ◌+◌, ◌^◌, ◌≤◌, ◌<◌}
 use Rattle.residue.specs.Residue.{add, mul, sum}
-use Rattle.residue.specs.Laws.{one-mul, add-reduce-left}
-use Rattle.residue.specs.Sum.{sum_cong}
+use Rattle.residue.proofs.Laws.{one-mul, add-reduce-left}
+use Rattle.residue.proofs.Sum.{sum_cong}
 use Rattle.buffers.specs.Positions.{Same}
 use Rattle.secrecy.specs.Translation.{Invariant}
 use Rattle.conversion.specs.Conversion.{row, bits_at, bit_words}

@@ -4,7 +4,7 @@ use Prim.Native.Nat.{◌*◌, ◌≤◌, ◌<◌}
 use native.Mathlib.Omega.{arith}
 use borrow.Author.Tests.{le-leb, lt-leb}
 use Rattle.residue.proofs.Signed.{read_back}
-use Rattle.residue.specs.Integers.{minus_zero}
+use Rattle.residue.proofs.Integers.{minus_zero}
 use Rattle.binomial.proofs.centred_value.Goals as goal
 
 pub returns-then-widen : goal.returns-then-widen

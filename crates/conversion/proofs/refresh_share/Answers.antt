@@ -2,7 +2,7 @@ use mathlib.Core.Path.{◌≡◌, refl, ◌∙◌}
 use Prim.Native.Nat.{◌+◌, ◌-◌, ◌≤◌, ◌<◌}
 use native.Mathlib.Omega.{arith}
 use lib.ListN.{length-set}
-use Rattle.residue.specs.Laws.{add_cong, sub_cong, add_lt}
+use Rattle.residue.proofs.Laws.{add_cong, sub_cong, add_lt}
 use Rattle.buffers.specs.Positions.{at}
 use Rattle.conversion.proofs.Steps.{paired_none, paired-next, other_lt, paired_lt, paired-all}
 use Rattle.conversion.proofs.refresh_share.Goals as goal

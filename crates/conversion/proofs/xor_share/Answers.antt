@@ -3,7 +3,7 @@ use mathlib.Core.Path.{◌≡◌, refl, ◌∙◌}
 use Prim.Native.Nat.{◌+◌, ◌<◌}
 use native.Mathlib.Omega.{arith}
 use lib.ListN.{set}
-use Rattle.residue.specs.Laws.{add_cong, add_lt}
+use Rattle.residue.proofs.Laws.{add_cong, add_lt}
 use Rattle.buffers.specs.Positions.{at, after}
 use Rattle.conversion.specs.Laws.{less_twice_lt}
 use Rattle.conversion.proofs.Steps.{Turned, turned_none, turned_below, turned_at, turned_past, turned_lt, turned_all}

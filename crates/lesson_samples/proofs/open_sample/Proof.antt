@@ -4,7 +4,7 @@ use native.Mathlib.Omega.{arith}
 use mir.Facts.{to_z-of_z}
 use borrow.Author.Tests.{le-leb, lt-ltb, eq-eqb}
 use Rattle.residue.specs.Residue.{reduce, total}
-use Rattle.residue.specs.Laws.{reduce_lt}
+use Rattle.residue.proofs.Laws.{reduce_lt}
 use Rattle.checks.specs.Checks.{accepted, is_none}
 use Rattle.checks.specs.Laws.{true_within, not_both, same_answer, accepts, each-below-none}
 use Rattle.masking.specs.Sharing.{open_residue_checks, opened_residue}

@@ -1,6 +1,6 @@
 -- The sum less q, modulo q, is the sum modulo q.
 use Rattle.std.proofs.Common.{◌∙◌}
-use Rattle.residue.specs.Laws.{sub-modulus}
+use Rattle.residue.proofs.Laws.{sub-modulus}
 use Rattle.residue.proofs.add.Goals as goal
 
 pub returns : goal.returns

@@ -1,6 +1,6 @@
 -- The widened sum is below q, so it is narrowed to itself.
 use Rattle.std.proofs.Common.{arith}
-use Rattle.residue.specs.Laws.{add_lt}
+use Rattle.residue.proofs.Laws.{add_lt}
 use Rattle.residue.proofs.add_words.Goals as goal
 
 pub narrow-requires : goal.narrow-requires

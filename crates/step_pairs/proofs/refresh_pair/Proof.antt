@@ -6,7 +6,7 @@ use native.Mathlib.Omega.{arith}
 use borrow.Author.Rules.{rules}
 use lib.ListN.{set, length-set}
 use Rattle.residue.specs.Residue.{add, sub}
-use Rattle.residue.specs.Laws.{add_cong, sub_cong, add_lt}
+use Rattle.residue.proofs.Laws.{add_cong, sub_cong, add_lt}
 use Rattle.buffers.specs.Positions.{at}
 use Rattle.records.specs.Records.{step}
 use Rattle.records.specs.Laws.{fits-rest}

@@ -4,8 +4,8 @@ use Prim.Native.Nat.{ℕ, ◌-◌, ◌≤◌, ◌<◌}
 use native.Mathlib.Omega.{arith}
 use borrow.Author.Rules.{rules}
 use Rattle.residue.specs.Residue.{sub, sum}
-use Rattle.residue.specs.Laws.{sub_cong, add_cong, add_lt}
-use Rattle.residue.specs.Sum.{running_none, running_next, sum_lt}
+use Rattle.residue.proofs.Laws.{sub_cong, add_cong, add_lt}
+use Rattle.residue.proofs.Sum.{running_none, running_next, sum_lt}
 use Rattle.buffers.specs.Positions.{at, after}
 use Rattle.conversion.specs.Conversion.{extend}
 use Rattle.conversion.specs.Laws.{extend-below, extend_from}

@@ -4,7 +4,7 @@ use Prim.Native.Nat.{◌-◌, ◌*◌, ◌≤◌, ◌<◌}
 use native.Mathlib.Omega.{arith}
 use borrow.Author.Rules.{rules}
 use Rattle.residue.specs.Residue.{mul}
-use Rattle.residue.specs.Laws.{bit_times, mul_small}
+use Rattle.residue.proofs.Laws.{bit_times, mul_small}
 use Rattle.buffers.specs.Positions.{at}
 use Rattle.conversion.specs.Arrays.{Holds, holds-next}
 use Rattle.step_rounds.proofs.multiply.Statement.{statement}

@@ -6,7 +6,7 @@ use native.Mathlib.Omega.{arith}
 use lib.ListN.{length-set}
 use borrow.Author.Rules.{rules}
 use Rattle.residue.specs.Residue.{add}
-use Rattle.residue.specs.Laws.{reduce-small, sub_zero}
+use Rattle.residue.proofs.Laws.{reduce-small, sub_zero}
 use Rattle.buffers.specs.Positions.{at}
 use Rattle.buffers.specs.PositionLaws.{set_agrees}
 use Rattle.conversion.specs.Conversion.{less_twice, xor_bit}

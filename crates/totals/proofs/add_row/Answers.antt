@@ -5,7 +5,7 @@ use Prim.Native.Nat.{ℕ, ◌-◌, ◌≤◌, ◌<◌}
 use native.Mathlib.Nat.{le_refl}
 use native.Mathlib.Omega.{arith}
 use lib.ListN.{length-set}
-use Rattle.residue.specs.Laws.{sub_cong, sub_complement}
+use Rattle.residue.proofs.Laws.{sub_cong, sub_complement}
 use Rattle.buffers.specs.Positions.{at}
 use Rattle.buffers.specs.PositionLaws.{front-behind}
 use Rattle.buffers.specs.Rows.{values-none, values-next, values-all}

@@ -7,7 +7,7 @@ use native.Mathlib.Omega.{arith}
 use lib.ListN.{length, take, set, length-set, length-take}
 use lib.Seq.{take_all}
 use borrow.Author.Rules.{rules}
-use Rattle.residue.specs.Laws.{add_cong, add_lt}
+use Rattle.residue.proofs.Laws.{add_cong, add_lt}
 use Rattle.buffers.specs.Overwrite.{overwrite}
 use Rattle.buffers.specs.Laws.{overwrite-none, front_from, taken_next, taken-all}
 use Rattle.buffers.specs.Positions.{at, table}

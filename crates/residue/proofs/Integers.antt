@@ -5,7 +5,7 @@ use Rattle.std.proofs.Math.Nat as N
 use Rattle.std.proofs.Math.Decide.{dec_le}
 use Rattle.std.proofs.Math.IntN.{suc_ℤ, pred_ℤ, +ℤ_assoc, +ℤ_comm, +ℤ-pred_ℤ, suc_ℤ-+ℤ, neg_ℤ-+ℤ, neg_ℤ-suc_ℤ, zero-*ℤ, suc_ℤ-*ℤ}
 use Rattle.residue.specs.Residue.{reduce, neg, sub, reduceℤ}
-use Rattle.residue.specs.Laws.{reduce_plus, reduce-neg, reduce_lt, add-reduce-left, neg-reduce, add_assoc, zero_add, add-neg, neg-add, add_sub_cancel}
+use Rattle.residue.proofs.Laws.{reduce_plus, reduce-neg, reduce_lt, add-reduce-left, neg-reduce, add_assoc, zero_add, add-neg, neg-add, add_sub_cancel}
 
 pub minus_zero : (a : ℕ) → pos a -ℤ pos 0 ≡ pos a
 minus_zero a = ap pos (N.add-zero a)

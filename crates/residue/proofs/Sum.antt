@@ -8,7 +8,7 @@ use Rattle.std.proofs.Math.Nat as N
 use Rattle.std.proofs.Math.Decide.{dec_lt}
 use Rattle.std.proofs.Math.ListN.{get_or-append}
 use Rattle.residue.specs.Residue.{reduce, add, mul, neg, sum, total, EachBelow}
-use Rattle.residue.specs.Laws.{reduce_zero, reduce_lt, reduce-reduce, reduce_plus, reduce-add, add-reduce-left, add-reduce_right, add_comm, add_assoc, add_left_comm, zero_add, add_zero, mul-add, mul_zero, neg_zero, neg-add}
+use Rattle.residue.proofs.Laws.{reduce_zero, reduce_lt, reduce-reduce, reduce_plus, reduce-add, add-reduce-left, add-reduce_right, add_comm, add_assoc, add_left_comm, zero_add, add_zero, mul-add, mul_zero, neg_zero, neg-add}
 
 -- ---- a list in two parts
 
