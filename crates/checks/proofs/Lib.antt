@@ -1,2 +1,3 @@
 pub mod Rows
 pub mod Shift
+pub mod Settles

@@ -7,9 +7,9 @@ use native.Mathlib.Omega.{arith}
 use Rattle.residue.specs.Residue.{add}
 use Rattle.buffers.specs.Positions.{at, after, Same}
 use Rattle.secrecy.specs.Secrecy.{Full, Indistinguishable, AgreeBut}
-use Rattle.secrecy.specs.Laws.{weaken}
-use Rattle.secrecy.specs.Words.{Reduced}
-use Rattle.secrecy.specs.Translation.{moved, Translation, Invariant, equivariant_add, indistinguishable, Within, behind-stays}
+use Rattle.secrecy.proofs.Laws.{weaken}
+use Rattle.secrecy.proofs.Words.{Reduced}
+use Rattle.secrecy.proofs.Translation.{moved, Translation, Invariant, equivariant_add, indistinguishable, Within, behind-stays}
 use Rattle.conversion.specs.Conversion.{bits_at, pairs, convert_bit, bit_words, row}
 use Rattle.conversion.specs.Laws.{pairs-twice}
 use Rattle.conversion.specs.Rows.{bit_below}

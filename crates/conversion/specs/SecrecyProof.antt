@@ -6,8 +6,8 @@ use Rattle.buffers.specs.PositionLaws.{after_zero}
 use Rattle.checks.specs.Laws.{Hold, accepted-holds}
 use Rattle.masking.specs.Sharing.{xor_all}
 use Rattle.secrecy.specs.Secrecy.{Full, between, Indistinguishable, AgreeBut}
-use Rattle.secrecy.specs.Laws.{weaken, between-taken, agree-front}
-use Rattle.secrecy.specs.Translation.{indistinguishable}
+use Rattle.secrecy.proofs.Laws.{weaken, between-taken, agree-front}
+use Rattle.secrecy.proofs.Translation.{indistinguishable}
 use Rattle.conversion.specs.Conversion.{convert_bit, bit_words, bit_shares, sharing_checks, converted}
 use Rattle.conversion.specs.Arrays.{between_drawn}
 use Rattle.conversion.specs.Accepted.{SharedString, first_lt, shared_bit, fit-holds}

@@ -6,7 +6,7 @@ use Rattle.residue.specs.Residue.{add}
 use Rattle.residue.proofs.Laws.{reduce-add, add_assoc}
 use Rattle.buffers.specs.Positions.{after, join, Same}
 use Rattle.buffers.specs.PositionLaws.{after-after, join_from}
-use Rattle.secrecy.specs.Translation.{moved, Translation, Equivariant, Within, before-stays, within-opposite, within-join}
+use Rattle.secrecy.proofs.Translation.{moved, Translation, Equivariant, Within, before-stays, within-opposite, within-join}
 use Rattle.conversion.specs.Conversion.{pairs, convert, convert_bit, bit_words}
 use Rattle.conversion.specs.ZeroSharing.{zero_sharing, zero_sharing-add, solve, solve-ends, zero_sharing-solve}
 use Rattle.conversion.specs.Laws.{pairs-twice, convert_local, convert_bit_adds}

@@ -6,7 +6,8 @@ use Rattle.std.proofs.Math.Nat.{zero-add}
 use Rattle.std.proofs.Math.ListN.{length-append}
 use Rattle.buffers.specs.Laws.{front, take-front}
 use Rattle.checks.specs.Checks.{accepted, checked}
-use Rattle.checks.specs.Laws.{not_both, accepts, accepted-answer, settled-answer, settled-done, checks-hold, settles_accepted, settles_refused}
+use Rattle.checks.specs.Laws.{not_both, accepts, accepted-answer, settled-answer, settled-done}
+use Rattle.checks.proofs.Settles.{checks-hold, settles_accepted, settles_refused}
 use Rattle.checks.specs.declared.Refusal.{Refusal}
 use Rattle.checks.specs.declared.Answer.{Answer}
 use Rattle.checks.specs.declared.Answer.TheVariants.{Done, Refused}

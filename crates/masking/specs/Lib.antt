@@ -1,4 +1,3 @@
 pub mod Sharing
 pub mod Answers
 pub mod Xor
-pub mod MaskOpen

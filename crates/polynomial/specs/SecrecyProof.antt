@@ -4,8 +4,8 @@ use Rattle.buffers.specs.Positions.{block}
 use Rattle.checks.specs.Laws.{accepted-holds}
 use Rattle.conversion.specs.Arrays.{full_drawn}
 use Rattle.secrecy.specs.Secrecy.{AgreeBut}
-use Rattle.secrecy.specs.Laws.{weaken}
-use Rattle.secrecy.specs.Blocks.{blocks}
+use Rattle.secrecy.proofs.Laws.{weaken}
+use Rattle.secrecy.proofs.Blocks.{blocks}
 use Rattle.totals.specs.Sample.{sample_shares, sample_words}
 use Rattle.sampler.specs.Accepted.{pair-large, fit-holds}
 use Rattle.sampler.specs.SecrecyProof.{shares-secrecy}

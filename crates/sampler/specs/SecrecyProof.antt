@@ -4,7 +4,7 @@ use Rattle.std.specs.Prelude.{List, ℕ, zero, suc, ◌+◌, ◌≤◌, ◌<◌,
 use Rattle.buffers.specs.Positions.{at}
 use Rattle.checks.specs.Laws.{Hold, accepted-holds}
 use Rattle.secrecy.specs.Secrecy.{Full, between, Indistinguishable, AgreeBut}
-use Rattle.secrecy.specs.Laws.{weaken, between-taken, agree-front}
+use Rattle.secrecy.proofs.Laws.{weaken, between-taken, agree-front}
 use Rattle.conversion.specs.Conversion.{bits_at, bit_words}
 use Rattle.conversion.specs.Arrays.{between_drawn}
 use Rattle.conversion.specs.RowTranslation.{FirstBit, first-bit-secrecy}

@@ -6,7 +6,7 @@ use Rattle.residue.specs.Residue.{add, sub, sum}
 use Rattle.residue.proofs.Laws.{add_assoc}
 use Rattle.residue.proofs.Sum.{sum_cong}
 use Rattle.buffers.specs.Positions.{after, Same}
-use Rattle.secrecy.specs.Translation.{Invariant}
+use Rattle.secrecy.proofs.Translation.{Invariant}
 use Rattle.conversion.specs.Conversion.{bits_at, bit_words, row}
 use Rattle.conversion.specs.RowTranslation.{row-form, words-behind, rows_behind, moving}
 use Rattle.conversion.specs.Translation.{bit_form}

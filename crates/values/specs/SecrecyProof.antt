@@ -6,7 +6,7 @@ use Rattle.buffers.specs.Positions.{at}
 use Rattle.checks.specs.Laws.{Hold, accepted-holds}
 use Rattle.masking.specs.Sharing.{xor_all}
 use Rattle.secrecy.specs.Secrecy.{Full, Indistinguishable, AgreeBut}
-use Rattle.secrecy.specs.Laws.{weaken, between-taken, agree-front}
+use Rattle.secrecy.proofs.Laws.{weaken, between-taken, agree-front}
 use Rattle.conversion.specs.Conversion.{bits_at, bit_words, value_words, string_checks}
 use Rattle.conversion.specs.Arrays.{between_drawn}
 use Rattle.conversion.specs.Accepted.{shared_string, fit-holds}

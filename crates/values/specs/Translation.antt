@@ -6,7 +6,7 @@ use Rattle.residue.specs.Residue.{add, mul, sum}
 use Rattle.residue.proofs.Laws.{one-mul, add-reduce-left}
 use Rattle.residue.proofs.Sum.{sum_cong}
 use Rattle.buffers.specs.Positions.{Same}
-use Rattle.secrecy.specs.Translation.{Invariant}
+use Rattle.secrecy.proofs.Translation.{Invariant}
 use Rattle.conversion.specs.Conversion.{row, bits_at, bit_words}
 use Rattle.conversion.specs.RowTranslation.{row-form, rows_behind, moving}
 use Rattle.conversion.specs.Translation.{bit_form}

@@ -3,7 +3,7 @@ use mathlib.Core.Path.{sym, ap, ◌∙◌}
 use borrow.Author.Tests.{ltb-true}
 use Rattle.residue.proofs.Signed.{read_back}
 use Rattle.checks.specs.Checks.{accepted}
-use Rattle.checks.specs.Laws.{checks-hold, checks_passed, checks_failed}
+use Rattle.checks.proofs.Settles.{checks-hold, checks_passed, checks_failed}
 use Rattle.binomial.specs.Signed.{centred}
 use Rattle.binomial.proofs.centre.Goals as goal
 

@@ -4,7 +4,7 @@ use Prim.Native.Nat.{ℕ}
 use lib.IntN.{pos, ◌-ℤ◌}
 use Rattle.residue.proofs.Signed.{read_back}
 use Rattle.checks.specs.Checks.{accepted}
-use Rattle.checks.specs.Laws.{checks_passed, checks_failed}
+use Rattle.checks.proofs.Settles.{checks_passed, checks_failed}
 use Rattle.binomial.specs.Signed.{weight_difference}
 use Rattle.binomial.proofs.weight_difference.Goals as goal
 

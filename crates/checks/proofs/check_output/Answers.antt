@@ -3,7 +3,8 @@ use mathlib.Core.Path.{sym, ◌∙◌}
 use Prim.Native.Nat.{◌*◌}
 use borrow.Author.Tests.{le-leb, lt-leb}
 use Rattle.checks.specs.Checks.{output_checks}
-use Rattle.checks.specs.Laws.{Past, pass, fail, pass_all, part_passed, part_failed}
+use Rattle.checks.specs.Laws.{Past, pass, fail, pass_all}
+use Rattle.checks.proofs.Settles.{part_passed, part_failed}
 use Rattle.checks.proofs.check_output.Goals as goal
 use Rattle.checks.proofs.check_output.Goals.{In_default}
 

@@ -7,7 +7,8 @@ use lib.ListN.{length, drop}
 use Rattle.checks.specs.declared.Answer.TheVariants.{Done}
 use Rattle.checks.specs.Checks.{checked}
 use Rattle.checks.specs.Answers.{checked_reading, outcome}
-use Rattle.checks.specs.Laws.{Hold, checks-hold, settles_accepted, settles_refused}
+use Rattle.checks.specs.Laws.{Hold}
+use Rattle.checks.proofs.Settles.{checks-hold, settles_accepted, settles_refused}
 use Rattle.buffers.specs.Overwrite.{overwrite}
 use Rattle.buffers.specs.Positions.{at, table, after, Same, Below}
 use Rattle.buffers.specs.PositionLaws.{front_same}

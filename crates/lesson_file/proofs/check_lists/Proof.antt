@@ -4,7 +4,7 @@ use Prim.Native.Nat.{◌+◌, ◌*◌, ◌≤◌}
 use native.Mathlib.Omega.{arith}
 use borrow.Author.Tests.{leb-true}
 use lib.ListN.{length}
-use Rattle.checks.specs.Laws.{checks-hold, part_passed, part_failed}
+use Rattle.checks.proofs.Settles.{checks-hold, part_passed, part_failed}
 use borrow.Author.Rules.{rules}
 use Rattle.lesson_file.proofs.check_lists.Statement.{statement}
 use Rattle.lesson_file.proofs.check_lists.Tie as tie

@@ -6,7 +6,8 @@ use borrow.Author.Tests.{leb-true, eqb-true}
 use lib.ListN.{length}
 use Rattle.checks.specs.declared.Answer.TheVariants.{Done}
 use Rattle.checks.specs.Answers.{outcome}
-use Rattle.checks.specs.Laws.{within_true, checks-hold, settles_accepted, settles_refused}
+use Rattle.checks.specs.Laws.{within_true}
+use Rattle.checks.proofs.Settles.{checks-hold, settles_accepted, settles_refused}
 use Rattle.masking.specs.Sharing.{masked}
 use Rattle.masking.proofs.mask.Goals as goal
 

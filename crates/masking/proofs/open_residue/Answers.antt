@@ -5,7 +5,8 @@ use native.Mathlib.Omega.{arith}
 use borrow.Author.Tests.{leb-true, eqb-true}
 use lib.ListN.{length}
 use Rattle.checks.specs.Checks.{accepted}
-use Rattle.checks.specs.Laws.{within_true, none-each-below, checks-hold, checks_passed, checks_failed}
+use Rattle.checks.specs.Laws.{within_true, none-each-below}
+use Rattle.checks.proofs.Settles.{checks-hold, checks_passed, checks_failed}
 use Rattle.masking.specs.Sharing.{opened_residue}
 use Rattle.masking.proofs.open_residue.Goals as goal
 

@@ -4,7 +4,8 @@ use native.Mathlib.Omega.{arith}
 use borrow.Author.Tests.{eqb-true}
 use lib.ListN.{length}
 use Rattle.checks.specs.Checks.{accepted}
-use Rattle.checks.specs.Laws.{within_true, checks-hold, checks_passed, checks_failed}
+use Rattle.checks.specs.Laws.{within_true}
+use Rattle.checks.proofs.Settles.{checks-hold, checks_passed, checks_failed}
 use Rattle.masking.specs.Sharing.{opened_string}
 use Rattle.masking.proofs.open_string.Goals as goal
 

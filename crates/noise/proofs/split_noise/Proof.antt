@@ -6,7 +6,7 @@ use native.Mathlib.Omega.{arith}
 use Rattle.buffers.specs.Overwrite.{overwrite}
 use Rattle.checks.specs.declared.Answer.TheVariants.{Done}
 use Rattle.checks.specs.Answers.{outcome}
-use Rattle.checks.specs.Laws.{checks-hold, settles_accepted, settles_refused}
+use Rattle.checks.proofs.Settles.{checks-hold, settles_accepted, settles_refused}
 use Rattle.noise.specs.Split.{x_bit, y_bit, noise_shares, targets, noise_split}
 use Rattle.noise.specs.Accepted.{Noise, noise}
 use borrow.Author.Rules.{rules}

@@ -4,7 +4,7 @@ use Prim.Native.Nat.{◌*◌}
 use native.Mathlib.Nat.{mul_assoc}
 use native.Mathlib.Omega.{arith}
 use Rattle.checks.specs.Checks.{checked, buffer_checks}
-use Rattle.checks.specs.Laws.{checks-hold, part_passed, part_failed}
+use Rattle.checks.proofs.Settles.{checks-hold, part_passed, part_failed}
 use Rattle.conversion.specs.Conversion.{bit_words}
 use Rattle.polynomial.specs.Accepted.{SmallPolynomial, small_polynomial, SharedStrings, first-pair, shared_strings}
 use Rattle.polynomial.proofs.check_polynomial.Goals as goal

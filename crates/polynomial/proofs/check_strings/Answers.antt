@@ -2,7 +2,8 @@
 use mathlib.Core.Path.{sym, ◌∙◌}
 use native.Mathlib.Nat.{mul-le-mul}
 use native.Mathlib.Omega.{arith}
-use Rattle.checks.specs.Laws.{Past, pass, fail, within_true, checks-hold, part_passed, part_failed}
+use Rattle.checks.specs.Laws.{Past, pass, fail, within_true}
+use Rattle.checks.proofs.Settles.{checks-hold, part_passed, part_failed}
 use Rattle.polynomial.specs.Polynomial.{strings_checks}
 use Rattle.polynomial.proofs.check_strings.Goals as goal
 use Rattle.polynomial.proofs.check_strings.Goals.{In_default}

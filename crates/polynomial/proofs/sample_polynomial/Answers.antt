@@ -4,7 +4,7 @@ use mathlib.Core.List.{List}
 use Prim.Native.Nat.{ℕ, ◌*◌}
 use native.Mathlib.Omega.{arith}
 use borrow.Author.Rules.{rules}
-use Rattle.checks.specs.Laws.{checks-hold, settles_accepted, settles_refused}
+use Rattle.checks.proofs.Settles.{checks-hold, settles_accepted, settles_refused}
 use Rattle.buffers.specs.Positions.{at}
 use Rattle.buffers.specs.PositionLaws.{front-zeros}
 use Rattle.conversion.specs.Arrays.{Drawn}

@@ -5,7 +5,8 @@ use native.Mathlib.Omega.{arith}
 use borrow.Author.Tests.{le-leb, lt-leb}
 use borrow.Author.Rules.{rules}
 use Rattle.checks.specs.Checks.{checked, buffer_checks}
-use Rattle.checks.specs.Laws.{hold-front, checks-hold, pass, fail, pass_all, part_passed, part_failed}
+use Rattle.checks.specs.Laws.{hold-front, pass, fail, pass_all}
+use Rattle.checks.proofs.Settles.{checks-hold, part_passed, part_failed}
 use Rattle.totals.specs.Sample.{sample_words}
 use Rattle.sampler.specs.Sampler.{pair_checks}
 use Rattle.sampler.specs.Accepted.{SharedPair, shared_pair}

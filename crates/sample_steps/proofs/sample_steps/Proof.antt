@@ -10,7 +10,8 @@ use Rattle.buffers.specs.Overwrite.{overwrite}
 use Rattle.buffers.specs.Positions.{at, Same}
 use Rattle.buffers.specs.PositionLaws.{front_same, front-zeros}
 use Rattle.checks.specs.Checks.{Outcome}
-use Rattle.checks.specs.Laws.{Hold, hold-front, hold-rest, checks-hold, settles_accepted, settles_refused}
+use Rattle.checks.specs.Laws.{Hold, hold-front, hold-rest}
+use Rattle.checks.proofs.Settles.{checks-hold, settles_accepted, settles_refused}
 use Rattle.checks.specs.Answers.{outcome}
 use Rattle.checks.specs.declared.Answer.TheVariants.{Done}
 use Rattle.conversion.specs.Arrays.{Drawn}

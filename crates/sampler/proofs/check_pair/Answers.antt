@@ -1,6 +1,6 @@
 -- Checks 1 to 3 refuse, or the others decide.
 use mathlib.Core.Path.{sym, ◌∙◌}
-use Rattle.checks.specs.Laws.{part_passed, part_failed}
+use Rattle.checks.proofs.Settles.{part_passed, part_failed}
 use Rattle.sampler.proofs.check_pair.Goals as goal
 
 pub returns-in-Failed : goal.returns-in-Failed

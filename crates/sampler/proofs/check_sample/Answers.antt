@@ -1,7 +1,7 @@
 -- Checks 1 to 7 refuse, or the others decide.
 use mathlib.Core.Path.{sym, ◌∙◌}
 use native.Mathlib.Omega.{arith}
-use Rattle.checks.specs.Laws.{checks-hold, part_passed, part_failed}
+use Rattle.checks.proofs.Settles.{checks-hold, part_passed, part_failed}
 use Rattle.sampler.specs.Accepted.{Small, small, SharedPair, shared_pair}
 use Rattle.sampler.proofs.check_sample.Goals as goal
 use Rattle.sampler.proofs.check_sample.Goals.{In_default}

@@ -9,7 +9,7 @@ use Rattle.buffers.specs.Overwrite.{overwrite}
 use Rattle.buffers.specs.Positions.{at}
 use Rattle.buffers.specs.PositionLaws.{front_same, front-zeros}
 use Rattle.conversion.specs.Arrays.{Drawn}
-use Rattle.checks.specs.Laws.{checks-hold, settles_accepted, settles_refused}
+use Rattle.checks.proofs.Settles.{checks-hold, settles_accepted, settles_refused}
 use Rattle.totals.specs.Sample.{sample_words, sample_shares}
 use Rattle.sampler.specs.Sampler.{pair_checks, both, sampled}
 use Rattle.sampler.specs.Secrecy.{Room}

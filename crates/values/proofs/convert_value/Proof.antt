@@ -10,7 +10,8 @@ use Rattle.buffers.specs.Overwrite.{overwrite}
 use Rattle.buffers.specs.PositionLaws.{front_same}
 use Rattle.checks.specs.declared.Answer.TheVariants.{Done}
 use Rattle.checks.specs.Answers.{outcome}
-use Rattle.checks.specs.Laws.{Hold, checks-hold, settles_accepted, settles_refused}
+use Rattle.checks.specs.Laws.{Hold}
+use Rattle.checks.proofs.Settles.{checks-hold, settles_accepted, settles_refused}
 use Rattle.conversion.specs.Conversion.{value_words, string_checks, value_checks}
 use Rattle.conversion.specs.Accepted.{SharedString, shared_string, fit-first, fit_drawn, fit-room}
 use Rattle.values.specs.Values.{value_shares, converted_value}

@@ -5,7 +5,7 @@ use Prim.Native.Nat.{◌+◌, ◌≤◌}
 use native.Mathlib.Omega.{arith}
 use borrow.Author.Tests.{leb-true}
 use lib.ListN.{length}
-use Rattle.checks.specs.Laws.{checks-hold, checks_passed, checks_failed}
+use Rattle.checks.proofs.Settles.{checks-hold, checks_passed, checks_failed}
 use Rattle.lesson_file.specs.Records.{list_size}
 use Rattle.lesson_file.specs.RecordLaws.{in_order_lem}
 use borrow.Author.Rules.{rules}

@@ -7,7 +7,8 @@ use borrow.Author.Tests.{leb-true}
 use lib.ListN.{length}
 use Rattle.checks.specs.Checks.{Check, accepted, checked, parameter_checks}
 use Rattle.checks.specs.Answers.{checked_reading}
-use Rattle.checks.specs.Laws.{checks-hold, part_passed, part_failed, accepts}
+use Rattle.checks.specs.Laws.{accepts}
+use Rattle.checks.proofs.Settles.{checks-hold, part_passed, part_failed}
 use Rattle.buffers.specs.Positions.{at}
 use Rattle.lesson_file.specs.Records.{number}
 use Rattle.lesson_file.specs.RecordLaws.{located-holds, located-refuses}

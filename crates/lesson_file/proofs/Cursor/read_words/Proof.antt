@@ -7,7 +7,8 @@ use borrow.Author.Tests.{leb-true, le-leb, lt-leb}
 use lib.Dec.{leb}
 use lib.ListN.{length, drop}
 use Rattle.checks.specs.Checks.{Check, accepted, verdict}
-use Rattle.checks.specs.Laws.{pass, fail, pass_all, test-holds, test_fails, checks-hold, part_passed, part_failed}
+use Rattle.checks.specs.Laws.{pass, fail, pass_all, test-holds, test_fails}
+use Rattle.checks.proofs.Settles.{checks-hold, part_passed, part_failed}
 use Rattle.lesson_file.specs.Records.{whole, word_count, words_checks}
 use borrow.Author.Rules.{rules}
 use Rattle.lesson_file.proofs.Cursor.read_words.Statement.{statement}

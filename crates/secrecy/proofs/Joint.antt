@@ -2,7 +2,7 @@
 use Rattle.std.specs.Prelude.{◌≡◌}
 use Rattle.std.proofs.Common.{sym, ap, ◌∙◌}
 use Rattle.secrecy.specs.Secrecy.{OneToOne, Indistinguishable}
-use Rattle.secrecy.specs.Laws.{undone-one_to_one}
+use Rattle.secrecy.proofs.Laws.{undone-one_to_one}
 
 -- the origin of an image
 origin-map : {T : Type 0} {P : T → Type 0} {f : T → T} (o : OneToOne P f) (w : T) → P w → o.origin (f w) ≡ w

@@ -9,7 +9,7 @@ use Rattle.residue.proofs.Laws.{add_comm, add_assoc, zero_add, add_zero, reduce-
 use Rattle.buffers.specs.Positions.{at, after, join, Same}
 use Rattle.buffers.specs.PositionLaws.{join-below, join_from}
 use Rattle.secrecy.specs.Secrecy.{Full, Indistinguishable, AlikeIn}
-use Rattle.secrecy.specs.Words.{Reduced, Ends, Undone, full-reduced, on_lists, at-on_lists, on_lists-one_to_one}
+use Rattle.secrecy.proofs.Words.{Reduced, Ends, Undone, full-reduced, on_lists, at-on_lists, on_lists-one_to_one}
 
 -- the words w, each moved by e's
 abbrev pub moved : ℕ → (ℕ → ℕ) → (ℕ → ℕ) → ℕ → ℕ

@@ -9,7 +9,7 @@ use Rattle.residue.proofs.Sum.{each-below-take, each-below-drop, each-below-appe
 use Rattle.buffers.specs.Positions.{block}
 use Rattle.buffers.specs.Blocks.{block-first, block-next}
 use Rattle.secrecy.specs.Secrecy.{Full, OneToOne, Indistinguishable}
-use Rattle.secrecy.specs.Laws.{weaken, unmoved}
+use Rattle.secrecy.proofs.Laws.{weaken, unmoved}
 
 -- ---- two blocks
 

@@ -10,7 +10,7 @@ use Rattle.residue.proofs.Laws.{reduce-small, reduce_zero}
 use Rattle.buffers.specs.Positions.{at, table}
 use Rattle.buffers.specs.PositionLaws.{length-table, table_below, table_list, list_table}
 use Rattle.secrecy.specs.Secrecy.{Full, OneToOne}
-use Rattle.secrecy.specs.Laws.{undone-one_to_one}
+use Rattle.secrecy.proofs.Laws.{undone-one_to_one}
 
 -- every word is reduced
 abbrev pub Reduced : ℕ → (ℕ → ℕ) → Type 0

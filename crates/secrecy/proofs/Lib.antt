@@ -1,0 +1,5 @@
+pub mod Laws
+pub mod Words
+pub mod Translation
+pub mod Joint
+pub mod Blocks
