@@ -12,9 +12,6 @@ use Rattle.report_lines.proofs.write_lines.Goals as goal
 pub loop-e-init : goal.loop-e-init
 loop-e-init c = (omega arith, rw lines_none (wrote_nothing _ 0), refl)
 
-pub overflow_cast-counts : goal.overflow_cast-counts
-overflow_cast-counts c = omega (arith, c.requires.1 c.loop-e.e c.loop-e-test.true)
-
 pub write_counted-end-requires : goal.write_counted-end-requires
 write_counted-end-requires c =
     let l = c.loop-e in
