@@ -42,7 +42,17 @@ loop-t-init c =
 pub add_bit_steps-end-requires : goal.add_bit_steps-end-requires
 add_bit_steps-end-requires c =
     let l = c.loop-t in
-    (omega (arith, c.requires.2), omega (arith, c.requires.0), c.requires.1, c.requires.4, drawn (goal.at.add_bit_steps-end-requires c).In-loop-t, omega (arith, room (goal.at.add_bit_steps-end-requires c).At-loop-t, c.requires.6), below (goal.at.add_bit_steps-end-requires c).At-loop-t, rw (made (goal.at.add_bit_steps-end-requires c).In-loop-t) (bits_fit _ _ _ _ _ _ _ _ _ _ _ l.invariant.3 c.loop-t-test.true))
+    let turn = (goal.at.add_bit_steps-end-requires c).In-loop-t in
+    let begun = (goal.at.add_bit_steps-end-requires c).At-loop-t in (
+      omega (arith, c.requires.2),
+      omega (arith, c.requires.0),
+      c.requires.1,
+      c.requires.4,
+      drawn turn,
+      omega (arith, room begun, c.requires.6),
+      below begun,
+      rw (made turn) (bits_fit _ _ _ _ _ _ _ _ _ _ _ l.invariant.3 c.loop-t-test.true),
+    )
 
 pub overflow_sub-p : goal.overflow_sub-p
 overflow_sub-p c = omega (arith, c.requires.0)
