@@ -10,6 +10,10 @@ use Rattle.conversion.specs.Conversion.{row}
 use Rattle.values.specs.Values.{value_share}
 use Rattle.values.specs.Doubling.{doubled, binary_lt, upper, upper-none, upper-next, upper-all}
 
+-- what becomes of n totals
+abbrev pub doubled_of : ℕ → ℕ → List ℕ → List ℕ → List ℕ
+doubled_of n q totals row = table n (λ t. doubled q (at totals t) (at row t))
+
 -- a block before block t
 pub block-before : (t c : ℕ) → 0 < t → (t - 1) * c + c ≡ t * c
 block-before t c h =

@@ -28,7 +28,7 @@ inside c = N.mul-le-mul (omega arith) (N.le_refl _)
 
 -- what is left of a group
 whole : (group k : ℕ) → group ≡ group / 2 ^ (2 * k * 0)
-whole group k = rw (N.mul-zero (2 * k)) (sym (N.div-one group))
+whole group k = rw (N.mul_zero (2 * k)) (sym (N.div-one group))
 
 behind : (group k s rest : ℕ) → rest ≡ group / 2 ^ s → rest / 2 ^ k ≡ group / 2 ^ (s + k)
 behind group k s rest e = ap (λ (v : ℕ). v / 2 ^ k) e ∙ shr-shr group s k
