@@ -7,8 +7,8 @@ use Rattle.buffers.specs.Positions.{at, table, after, Same, Below}
 use Rattle.buffers.specs.PositionLaws.{table_same, front_at, front_length}
 use Rattle.checks.specs.Width.{bit_lt}
 use Rattle.conversion.specs.Conversion.{bits_at, convert_bit}
-use Rattle.conversion.specs.Laws.{convert_bit_lt, convert_bit_local}
-use Rattle.conversion.specs.Rows.{bit_below}
+use Rattle.conversion.proofs.Laws.{convert_bit_lt, convert_bit_local}
+use Rattle.conversion.proofs.Rows.{bit_below}
 use Rattle.totals.specs.Totals.{signed_sum}
 use Rattle.records.specs.Records.{Recorded, per_share}
 use Rattle.records.specs.Laws.{per_share-same, recorded_then, fits-first, fits-rest}

@@ -5,9 +5,9 @@ use native.Mathlib.Omega.{arith}
 use Rattle.buffers.specs.Positions.{at, after}
 use Rattle.buffers.specs.PositionLaws.{after-at}
 use Rattle.conversion.specs.Conversion.{pairs, convert}
-use Rattle.conversion.specs.Laws.{pairs-twice}
+use Rattle.conversion.proofs.Laws.{pairs-twice}
 use Rattle.conversion.specs.Arrays.{drawn_part}
-use Rattle.conversion.specs.Lists.{holds-below, bit-done}
+use Rattle.conversion.proofs.Lists.{holds-below, bit-done}
 use Rattle.records.specs.Laws.{recorded_then, fits-first, fits-rest}
 use Rattle.steps.specs.Steps.{refresh_steps, convert_steps}
 use Rattle.steps.specs.Laws.{refresh_steps-same}

@@ -5,7 +5,7 @@ use native.Mathlib.Numerals.{add-one}
 use native.Mathlib.Omega.{arith}
 use Rattle.buffers.specs.Positions.{at}
 use Rattle.conversion.specs.Conversion.{pairs}
-use Rattle.conversion.specs.Laws.{pairs-step, pairs-most}
+use Rattle.conversion.proofs.Laws.{pairs-step, pairs-most}
 use Rattle.conversion.specs.Arrays.{drawn_part}
 use Rattle.records.specs.Laws.{left-all}
 use Rattle.step_pairs.proofs.Steps.{share-fits, share-done, shares-all}

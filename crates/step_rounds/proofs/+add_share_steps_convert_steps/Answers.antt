@@ -5,9 +5,9 @@ use Prim.Native.Nat.{◌+◌, ◌-◌}
 use Rattle.buffers.specs.Positions.{at, after}
 use Rattle.buffers.specs.PositionLaws.{after-at}
 use Rattle.conversion.specs.Conversion.{pairs}
-use Rattle.conversion.specs.Laws.{pairs-few, pairs-step}
+use Rattle.conversion.proofs.Laws.{pairs-few, pairs-step}
 use Rattle.conversion.specs.Arrays.{drawn_part}
-use Rattle.conversion.specs.Lists.{one_list, holds-below, share_added}
+use Rattle.conversion.proofs.Lists.{one_list, holds-below, share_added}
 use Rattle.records.specs.Laws.{recorded_then, fits-first, fits-rest}
 use Rattle.step_rounds.proofs.Steps.{round_added, rounds_next, rounds_one}
 use Rattle.step_rounds.proofs.+add_share_steps_convert_steps.Goals as goal

@@ -6,7 +6,7 @@ use Rattle.residue.proofs.Laws.{sub_cong, add_cong, add_lt}
 use Rattle.residue.proofs.Sum.{running_none, running_next, sum_lt}
 use Rattle.buffers.specs.Positions.{at, after}
 use Rattle.conversion.specs.Conversion.{extend}
-use Rattle.conversion.specs.Laws.{extend-below, extend_from}
+use Rattle.conversion.proofs.Laws.{extend-below, extend_from}
 use Rattle.conversion.specs.Arrays.{holds-next}
 use Rattle.step_rounds.proofs.extend.Goals as goal
 use Rattle.step_rounds.proofs.extend.Goals.{After-sub, After-widen, At-loop-i, In-loop-i}

@@ -8,7 +8,7 @@ use Rattle.residue.proofs.Laws.{reduce-small, sub_zero}
 use Rattle.buffers.specs.Positions.{at}
 use Rattle.buffers.specs.PositionLaws.{set_agrees}
 use Rattle.conversion.specs.Conversion.{less_twice, xor_bit}
-use Rattle.conversion.specs.Laws.{less_twice_lt}
+use Rattle.conversion.proofs.Laws.{less_twice_lt}
 use Rattle.conversion.specs.Arrays.{Holds, holds-next}
 use Rattle.step_rounds.proofs.xor_bit.Goals as goal
 use Rattle.step_rounds.proofs.xor_bit.Goals.{After-less_twice, After-loop-i}

@@ -8,8 +8,8 @@ use Rattle.residue.proofs.Sum.{sum_cong}
 use Rattle.buffers.specs.Positions.{Same}
 use Rattle.secrecy.proofs.Translation.{Invariant}
 use Rattle.conversion.specs.Conversion.{row, bits_at, bit_words}
-use Rattle.conversion.specs.RowTranslation.{row-form, rows_behind, moving}
-use Rattle.conversion.specs.Translation.{bit_form}
+use Rattle.conversion.proofs.RowTranslation.{row-form, rows_behind, moving}
+use Rattle.conversion.proofs.Translation.{bit_form}
 use Rattle.values.specs.Values.{binary_sum, value_share}
 
 module _ (q n m : ℕ) (x : ℕ → ℕ) where

@@ -11,11 +11,11 @@ use Rattle.conversion.specs.Conversion.{bits_at, bit_words, value_words, string_
 use Rattle.conversion.specs.Arrays.{between_drawn}
 use Rattle.conversion.specs.Accepted.{shared_string, fit-holds}
 use Rattle.conversion.specs.Secrecy.{Converts}
-use Rattle.conversion.specs.RowTranslation.{FirstBit, first-bit-secrecy}
+use Rattle.conversion.proofs.RowTranslation.{FirstBit, first-bit-secrecy}
 use Rattle.values.specs.Values.{value_shares, converted_value}
 use Rattle.values.specs.Secrecy.{ValueSecrecy}
-use Rattle.values.specs.Calls.{shares_at, call_converts}
-use Rattle.values.specs.Translation.{other_bits, share-form, others_invariant}
+use Rattle.values.proofs.Calls.{shares_at, call_converts}
+use Rattle.values.proofs.Translation.{other_bits, share-form, others_invariant}
 
 -- ---- the shares
 

@@ -11,9 +11,9 @@ use Rattle.secrecy.proofs.Laws.{weaken}
 use Rattle.secrecy.proofs.Words.{Reduced}
 use Rattle.secrecy.proofs.Translation.{moved, Translation, Invariant, equivariant_add, indistinguishable, Within, behind-stays}
 use Rattle.conversion.specs.Conversion.{bits_at, pairs, convert_bit, bit_words, row}
-use Rattle.conversion.specs.Laws.{pairs-twice}
-use Rattle.conversion.specs.Rows.{bit_below}
-use Rattle.conversion.specs.Translation.{AllBut, bit_form, convert_bit-form, refresh_words, bit_equivariant}
+use Rattle.conversion.proofs.Laws.{pairs-twice}
+use Rattle.conversion.proofs.Rows.{bit_below}
+use Rattle.conversion.proofs.Translation.{AllBut, bit_form, convert_bit-form, refresh_words, bit_equivariant}
 
 module _ (q n : ℕ) where
   pub row-form : (x : ℕ → ℕ) → 2 < q → (w : ℕ → ℕ) → Same n (row q n x w 0) (bit_form q n 0 (bits_at x 0) w)

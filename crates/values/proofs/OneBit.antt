@@ -13,10 +13,10 @@ use Rattle.checks.specs.Checks.{Verdict, verdict, settled}
 use Rattle.checks.specs.Laws.{accepted-holds, settled_same}
 use Rattle.checks.specs.Width.{bit-lowest}
 use Rattle.conversion.specs.Conversion.{bits_at, bit_words, convert_bit, row, bit_shares, string_checks, value_words, value_checks, bit_checks, converted}
-use Rattle.conversion.specs.Laws.{convert_bit_local}
-use Rattle.conversion.specs.Rows.{bit_below, row_lt}
+use Rattle.conversion.proofs.Laws.{convert_bit_local}
+use Rattle.conversion.proofs.Rows.{bit_below, row_lt}
 use Rattle.conversion.specs.Accepted.{SharedString, shared_string, first_lt, fit-first}
-use Rattle.conversion.specs.Calls.{bit-checks}
+use Rattle.conversion.proofs.Calls.{bit-checks}
 use Rattle.values.specs.Values.{binary_sum, value_share, value_shares, converted_value}
 
 module _ (n q : ℕ) (bits words : List ℕ) where

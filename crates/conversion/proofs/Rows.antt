@@ -13,7 +13,7 @@ use Rattle.checks.specs.Width.{bit, bit_lt}
 use Rattle.masking.specs.Sharing.{xor_all}
 use Rattle.masking.specs.Xor.{bit-xor_all}
 use Rattle.conversion.specs.Conversion.{bits_at, convert_bit, bit_words, value_words, row}
-use Rattle.conversion.specs.Laws.{convert_bit_lt, convert_bit_local, convert_bit-sum}
+use Rattle.conversion.proofs.Laws.{convert_bit_lt, convert_bit_local, convert_bit-sum}
 
 module _ (q n : ℕ) (large : 2 < q) where
   pub bit_below : (x : ℕ → ℕ) (t : ℕ) → bits_at x t 0 < q

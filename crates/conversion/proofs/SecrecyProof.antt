@@ -11,8 +11,8 @@ use Rattle.secrecy.proofs.Translation.{indistinguishable}
 use Rattle.conversion.specs.Conversion.{convert_bit, bit_words, bit_shares, sharing_checks, converted}
 use Rattle.conversion.specs.Arrays.{between_drawn}
 use Rattle.conversion.specs.Accepted.{SharedString, first_lt, shared_bit, fit-holds}
-use Rattle.conversion.specs.Calls.{bit_shares-at, call_converts}
-use Rattle.conversion.specs.Translation.{bit_form, convert_bit-form, refresh_words, bit_equivariant}
+use Rattle.conversion.proofs.Calls.{bit_shares-at, call_converts}
+use Rattle.conversion.proofs.Translation.{bit_form, convert_bit-form, refresh_words, bit_equivariant}
 use Rattle.conversion.specs.Secrecy.{Converts, BitSecrecy}
 
 -- ---- the shares

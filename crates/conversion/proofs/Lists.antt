@@ -5,8 +5,8 @@ use Rattle.std.proofs.Common.{◌∙◌, arith}
 use Prim.Native.Nat.{ℕ, zero, suc, ◌+◌, ◌<◌}
 use Rattle.buffers.specs.Positions.{at, after, Same, Below}
 use Rattle.conversion.specs.Conversion.{pairs, xor_share, convert, refresh, convert_bit}
-use Rattle.conversion.specs.ZeroSharing.{refresh-same}
-use Rattle.conversion.specs.Laws.{xor_share_cong, convert_lt}
+use Rattle.conversion.proofs.ZeroSharing.{refresh-same}
+use Rattle.conversion.proofs.Laws.{xor_share_cong, convert_lt}
 use Rattle.conversion.specs.Arrays.{Holds}
 
 module _ (q : ℕ) (b w : ℕ → ℕ) where

@@ -14,7 +14,7 @@ use Rattle.buffers.specs.PositionLaws.{table_below, table-last}
 use Rattle.masking.specs.Sharing.{xor_all}
 use Rattle.masking.specs.Xor.{xor_all-append, xor_all-one, xor_all_lt}
 use Rattle.conversion.specs.Conversion.{pairs, extend, less_twice, xor_bit, xor_share, convert, convert_bit, bit_words}
-use Rattle.conversion.specs.ZeroSharing.{zero_sharing, refresh_adds, zero_sharing_local, zero_sharing-sum}
+use Rattle.conversion.proofs.ZeroSharing.{zero_sharing, refresh_adds, zero_sharing_local, zero_sharing-sum}
 
 -- ---- the words: half of them for steps 1 and 2, half for step 3
 

@@ -10,9 +10,9 @@ use Rattle.checks.specs.Width.{bit}
 use Rattle.masking.specs.Sharing.{xor_all}
 use Rattle.masking.specs.Xor.{xor_all_lt}
 use Rattle.conversion.specs.Conversion.{row, value_words}
-use Rattle.conversion.specs.Rows.{row_local, row-sum}
+use Rattle.conversion.proofs.Rows.{row_local, row-sum}
 use Rattle.values.specs.Values.{binary_sum, value_share}
-use Rattle.values.specs.Doubling.{binary_lt, binary_number}
+use Rattle.values.proofs.Doubling.{binary_lt, binary_number}
 
 module _ (q n : ℕ) (large : 2 < q) (k : ℕ) where
   pub share_lt : (x w : ℕ → ℕ) (i : ℕ) → value_share q n k x w i < q

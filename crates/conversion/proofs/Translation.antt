@@ -8,8 +8,8 @@ use Rattle.buffers.specs.Positions.{after, join, Same}
 use Rattle.buffers.specs.PositionLaws.{after-after, join_from}
 use Rattle.secrecy.proofs.Translation.{moved, Translation, Equivariant, Within, before-stays, within-opposite, within-join}
 use Rattle.conversion.specs.Conversion.{pairs, convert, convert_bit, bit_words}
-use Rattle.conversion.specs.ZeroSharing.{zero_sharing, zero_sharing-add, solve, solve-ends, zero_sharing-solve}
-use Rattle.conversion.specs.Laws.{pairs-twice, convert_local, convert_bit_adds}
+use Rattle.conversion.proofs.ZeroSharing.{zero_sharing, zero_sharing-add, solve, solve-ends, zero_sharing-solve}
+use Rattle.conversion.proofs.Laws.{pairs-twice, convert_local, convert_bit_adds}
 
 -- every share but ℓ
 abbrev pub AllBut : ℕ → ℕ → ℕ → Type 0

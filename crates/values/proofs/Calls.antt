@@ -12,12 +12,12 @@ use Rattle.checks.specs.Checks.{accepted, verdict, is_none}
 use Rattle.checks.specs.Laws.{Hold, accepts, each-below-none}
 use Rattle.masking.specs.Sharing.{xor_all, open_string_checks, opened_string, open_residue_checks, opened_residue}
 use Rattle.conversion.specs.Conversion.{value_words, string_checks, value_checks}
-use Rattle.conversion.specs.Laws.{bit_words-some}
+use Rattle.conversion.proofs.Laws.{bit_words-some}
 use Rattle.conversion.specs.Accepted.{SharedString, shared_string, fit-first}
 use Rattle.conversion.specs.Written.{out-answer, out-kept, out_converts, out-words}
 use Rattle.conversion.specs.Secrecy.{Converts}
 use Rattle.values.specs.Values.{value_share, value_shares, converted_value}
-use Rattle.values.specs.Laws.{share_lt, share_local, share-sum}
+use Rattle.values.proofs.Laws.{share_lt, share_local, share-sum}
 
 pub length-shares : (n k q : ℕ) (x words : List ℕ) → length (value_shares n k q x words) ≡ n
 unfolding value_shares

@@ -12,7 +12,7 @@ use Rattle.checks.specs.Laws.{Hold, pass, same-behind}
 use Rattle.masking.specs.Sharing.{xor_all}
 use Rattle.masking.specs.Xor.{xor_all_lt}
 use Rattle.conversion.specs.Conversion.{convert_bit, bit_words, bit_shares, sharing_checks, value_checks, bit_checks, converted}
-use Rattle.conversion.specs.Laws.{bit_words-some, convert_bit_lt, convert_bit_local, convert_bit-sum}
+use Rattle.conversion.proofs.Laws.{bit_words-some, convert_bit_lt, convert_bit_local, convert_bit-sum}
 use Rattle.conversion.specs.Accepted.{SharedString, first_lt, shared_bit, fit-first}
 use Rattle.conversion.specs.Written.{out_converts, out-words}
 use Rattle.conversion.specs.Secrecy.{Converts}
