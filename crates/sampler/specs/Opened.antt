@@ -11,7 +11,7 @@ use Rattle.masking.specs.Sharing.{xor_all, open_residue_checks, opened_residue, 
 use Rattle.masking.specs.Xor.{xor_all_lt}
 use Rattle.binomial.specs.Signed.{weight, difference_of_weights, centred_value, centred, weight_checks, weight_difference}
 use Rattle.binomial.specs.Weight.{weight_le}
-use Rattle.binomial.specs.Centring.{centred-value, centred-sample}
+use Rattle.binomial.proofs.Centring.{centred-value, centred-sample}
 use Rattle.totals.specs.Sample.{sample_shares}
 use Rattle.sampler.specs.Sampler.{pair_checks, sample_checks, sampled}
 use Rattle.sampler.specs.Secrecy.{SharesOf}
