@@ -16,7 +16,7 @@ use Rattle.totals.specs.Sample.{sample_shares}
 use Rattle.sampler.specs.Sampler.{pair_checks, sample_checks, sampled}
 use Rattle.sampler.specs.Secrecy.{SharesOf}
 use Rattle.sampler.specs.Accepted.{SharedPair, pair-large, shared_pair, call-checks}
-use Rattle.sampler.specs.Calls.{length-shares, shares-below, shares-residue, call-samples}
+use Rattle.sampler.proofs.Calls.{length-shares, shares-below, shares-residue, call-samples}
 
 module _ {n k q : ℕ} {x y : List ℕ} (P : SharedPair n k q x y) where
   x_lt : xor_all x < 2 ^ k
