@@ -9,7 +9,8 @@ use Rattle.buffers.specs.Blocks.{block-fits}
 use Rattle.conversion.specs.Conversion.{bits_at, bit_words, convert_bit, row}
 use Rattle.conversion.specs.Arrays.{Drawn, drawn_part}
 use Rattle.sampler.specs.Accepted.{small}
-use Rattle.totals.specs.Totals.{signed_sum, totals_of, totals-none, totals-below, totals-next}
+use Rattle.totals.specs.Totals.{signed_sum, totals_of}
+use Rattle.totals.proofs.Totals.{totals-none, totals-below, totals-next}
 use Rattle.steps.specs.Steps.{bit_steps}
 use Rattle.sample_steps.proofs.Steps.{steps_at, bit-steps, bits-all, bits_fit, bits-next, bits-done}
 use Rattle.sample_steps.proofs.add_string_steps.Goals as goal

@@ -20,7 +20,7 @@ use Rattle.sampler.specs.Sampler.{Buffers, both, pair_checks, sample_checks, sam
 use Rattle.sampler.specs.Secrecy.{Room}
 use Rattle.sampler.specs.Accepted as sampler
 use Rattle.sampler.specs.Accepted.{SharedPair, shared_pair, pair-large, fit_drawn, fit-room, call-checks}
-use Rattle.sampler.specs.Calls.{shares_local, call-accepted}
+use Rattle.sampler.proofs.Calls.{shares_local, call-accepted}
 use Rattle.records.specs.Records.{Step, record_bytes, bytes}
 use Rattle.steps.specs.Steps.{step_records, record_count}
 use Rattle.steps.specs.Laws.{sample_steps-same}

@@ -12,7 +12,8 @@ use Rattle.buffers.specs.PositionLaws.{after_zero}
 use Rattle.conversion.specs.Conversion.{bit_words}
 use Rattle.conversion.specs.Arrays.{drawn_part}
 use Rattle.totals.specs.Sample.{string_share}
-use Rattle.totals.specs.Totals.{signed_sum, totals-below, totals-shares, totals_cleared}
+use Rattle.totals.specs.Totals.{signed_sum}
+use Rattle.totals.proofs.Totals.{totals-below, totals-shares, totals_cleared}
 use Rattle.sampler.specs.Accepted.{small}
 use Rattle.records.specs.Records.{Step}
 use Rattle.records.specs.Laws.{recorded_then, fits-first, fits-rest}

@@ -9,7 +9,8 @@ use Rattle.residue.proofs.Laws.{sub_cong, sub_complement}
 use Rattle.buffers.specs.Positions.{at}
 use Rattle.buffers.specs.PositionLaws.{front-behind}
 use Rattle.buffers.specs.Rows.{values-none, values-next, values-all}
-use Rattle.totals.specs.Totals.{signed_sum, signed_lt}
+use Rattle.totals.specs.Totals.{signed_sum}
+use Rattle.totals.proofs.Totals.{signed_lt}
 use Rattle.totals.proofs.add_row.Goals as goal
 use Rattle.totals.proofs.add_row.Goals.{After-sub, After-widen-share, In-loop-i, Joined-negative, else-negative, then-negative}
 

@@ -17,7 +17,7 @@ use Rattle.sampler.specs.Sampler.{Buffers, both, pair_checks, sample_checks, sha
 use Rattle.sampler.specs.Secrecy.{SharesOf, Samples}
 use Rattle.sampler.specs.Laws.{share_lt, share_local, share-sum}
 use Rattle.sampler.specs.Accepted.{SharedPair, shared_pair, pair-large, words-some, call-checks}
-use Rattle.sampler.specs.Written.{written-out-kept, written-work-kept, written-accepted, written-shares, written-zeros, written-before, written-words}
+use Rattle.sampler.proofs.Written.{written-out-kept, written-work-kept, written-accepted, written-shares, written-zeros, written-before, written-words}
 
 pub length-shares : (n k q : ℕ) (x y words : List ℕ) → length (sample_shares n k q x y words) ≡ n
 unfolding sample_shares

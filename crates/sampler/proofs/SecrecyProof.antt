@@ -12,7 +12,7 @@ use Rattle.totals.specs.Sample.{sample_shares, sample_words}
 use Rattle.sampler.specs.Sampler.{pair_checks, sampled}
 use Rattle.sampler.specs.Secrecy.{Samples, Room, Secrecy}
 use Rattle.sampler.specs.Accepted.{pair-large, shared_pair, fit-holds}
-use Rattle.sampler.specs.Calls.{shares_at, call-samples}
+use Rattle.sampler.proofs.Calls.{shares_at, call-samples}
 use Rattle.sampler.specs.Translation.{other_bits, share-form, others_invariant}
 
 -- ---- the shares

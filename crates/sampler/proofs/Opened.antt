@@ -11,12 +11,12 @@ use Rattle.masking.specs.Sharing.{xor_all, open_residue_checks, opened_residue, 
 use Rattle.masking.specs.Xor.{xor_all_lt}
 use Rattle.binomial.specs.Signed.{weight, difference_of_weights, centred_value, centred, weight_checks, weight_difference}
 use Rattle.binomial.specs.Weight.{weight_le}
-use Rattle.binomial.specs.Centring.{centred-value, centred-sample}
+use Rattle.binomial.proofs.Centring.{centred-value, centred-sample}
 use Rattle.totals.specs.Sample.{sample_shares}
 use Rattle.sampler.specs.Sampler.{pair_checks, sample_checks, sampled}
 use Rattle.sampler.specs.Secrecy.{SharesOf}
 use Rattle.sampler.specs.Accepted.{SharedPair, pair-large, shared_pair, call-checks}
-use Rattle.sampler.specs.Calls.{length-shares, shares-below, shares-residue, call-samples}
+use Rattle.sampler.proofs.Calls.{length-shares, shares-below, shares-residue, call-samples}
 
 module _ {n k q : ℕ} {x y : List ℕ} (P : SharedPair n k q x y) where
   x_lt : xor_all x < 2 ^ k

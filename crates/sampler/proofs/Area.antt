@@ -11,7 +11,7 @@ use Rattle.checks.specs.Refusals.{All, refusal_passes, refuses-before}
 use Rattle.totals.specs.Sample.{sample_words, sample_shares}
 use Rattle.sampler.specs.Sampler.{Buffers, pair_checks, shares_written, sampled}
 use Rattle.sampler.specs.Accepted.{SharedPair, shared_pair, fit-first, fit_drawn, fit-room, fit-holds}
-use Rattle.sampler.specs.Written.{written-answer, written-accepted}
+use Rattle.sampler.proofs.Written.{written-answer, written-accepted}
 
 abbrev not_eleven : ℕ → ℕ → Bool
 not_eleven code position = not (eqb code 11)
