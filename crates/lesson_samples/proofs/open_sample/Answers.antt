@@ -1,10 +1,8 @@
 -- Shares below q are opened, and their residue is below q.
 use mathlib.Core.Path.{◌≡◌, sym, ap, ◌∙◌}
 use mathlib.Core.List.{List}
-use Prim.Native.Nat.{ℕ, ◌≤◌, ◌<◌, ◌^◌}
+use Prim.Native.Nat.{ℕ, ◌≤◌}
 use native.Mathlib.Omega.{arith}
-use lib.IntN.{ℤ, pos, negsuc}
-use lib.Signed.{mag}
 use lib.ListN.{length}
 use borrow.Author.Tests.{le-leb, lt-ltb, eq-eqb}
 use Rattle.residue.specs.Residue.{reduce, total, EachBelow}
@@ -15,16 +13,9 @@ use Rattle.checks.specs.Laws.{true_within, not_both, same_answer, accepts, each-
 use Rattle.masking.specs.Sharing.{open_residue_checks, opened_residue}
 use Rattle.masking.specs.Answers.{residue_reading}
 use Rattle.binomial.specs.Signed.{centred_value, centre_checks, centred}
-use Rattle.binomial.specs.Fips204.{InRange}
-use Rattle.binomial.specs.Centring.{centred_mod}
 use Rattle.binomial.specs.Answers.{signed_reading}
 use Rattle.lesson_samples.proofs.open_sample.Goals as goal
 use Rattle.lesson_samples.proofs.open_sample.Goals.{After-centre}
-
--- a centred value fits in 32 bits
-small : (q : ℕ) (z : ℤ) → q < 2 ^ 16 → InRange q z → mag z < 2 ^ 31
-small q (pos a) f h = omega arith
-small q (negsuc a) f h = omega arith
 
 -- neither call refuses
 opened : (n q : ℕ) (shares : List ℕ) → 2 ≤ n → n ≤ 8 → 3 ≤ q → length shares ≡ n → EachBelow q shares → opened_residue n q shares ≡ accepted (reduce q (total shares))
@@ -43,7 +34,7 @@ centring c =
 
 pub returns-in-Value : goal.returns-in-Value
 returns-in-Value c =
-    read_back c.in-Value.value (small c.args.q _ (omega (arith, c.ranges.q.fits)) (centred_mod c.args.q _ _ (sym c.in-Value.ensures)).0) ∙ same_answer (sym (ap signed_reading c.in-Value.is) ∙ centring (goal.at.returns-in-Value c).After-centre)
+    read_back c.in-Value.value (omega arith) ∙ same_answer (sym (ap signed_reading c.in-Value.is) ∙ centring (goal.at.returns-in-Value c).After-centre)
 
 pub returns-in_default-centre : goal.returns-in_default-centre
 returns-in_default-centre c = absurd (not_both (sym (centring (goal.at.returns-in_default-centre c).After-centre) ∙ ap signed_reading c.in_default-centre.is))
