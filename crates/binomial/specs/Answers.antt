@@ -4,9 +4,7 @@ use Rattle.checks.specs.Checks.{Verdict, accepted}
 use Rattle.checks.specs.Answers.{refusal_reading}
 use Rattle.binomial.specs.declared.ParameterSet.{ParameterSet}
 use Rattle.binomial.specs.declared.SignedAnswer.{SignedAnswer}
-use Rattle.binomial.specs.declared.SignedAnswer.TheVariants as SignedAnswer
 use Rattle.binomial.specs.declared.SetAnswer.{SetAnswer}
-use Rattle.binomial.specs.declared.SetAnswer.TheVariants as SetAnswer
 
 abbrev pub signed_reading : SignedAnswer → Verdict ℤ
 signed_reading (SignedAnswer.Value z) = accepted z

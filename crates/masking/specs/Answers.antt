@@ -3,9 +3,7 @@ use Rattle.std.specs.Prelude.{ℕ}
 use Rattle.checks.specs.Checks.{Verdict, accepted}
 use Rattle.checks.specs.Answers.{refusal_reading}
 use Rattle.masking.specs.declared.StringAnswer.{StringAnswer}
-use Rattle.masking.specs.declared.StringAnswer.TheVariants as StringAnswer
 use Rattle.masking.specs.declared.ResidueAnswer.{ResidueAnswer}
-use Rattle.masking.specs.declared.ResidueAnswer.TheVariants as ResidueAnswer
 
 abbrev pub string_reading : StringAnswer → Verdict ℕ
 string_reading (StringAnswer.Opened s) = accepted s.0

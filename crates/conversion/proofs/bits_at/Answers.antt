@@ -1,7 +1,6 @@
 use mathlib.Core.Path.{◌≡◌, refl, ◌∙◌}
 use native.Mathlib.Omega.{arith}
 use lib.Bits.{and_mask}
-use Rattle.buffers.specs.Positions.{at}
 use Rattle.conversion.specs.Arrays.{holds-next}
 use Rattle.conversion.proofs.bits_at.Goals as goal
 

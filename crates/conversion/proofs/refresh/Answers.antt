@@ -2,7 +2,6 @@ use mathlib.Core.Path.{◌≡◌, refl, ◌∙◌}
 use Prim.Native.Nat.{◌+◌, ◌-◌}
 use native.Mathlib.Omega.{arith}
 use lib.ListN.{length-set}
-use Rattle.buffers.specs.Positions.{at}
 use Rattle.buffers.specs.Rows.{values-none, values-next, values-all}
 use Rattle.conversion.specs.Conversion.{pairs}
 use Rattle.conversion.specs.Arrays.{drawn_part}

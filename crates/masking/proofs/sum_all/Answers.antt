@@ -2,7 +2,6 @@ use mathlib.Core.Path.{refl, ◌∙◌}
 use Prim.Native.Nat.{◌<◌}
 use native.Mathlib.Omega.{arith}
 use lib.ListN.{length}
-use Rattle.residue.specs.Residue.{sum}
 use Rattle.residue.proofs.Sum.{running_none, running_next, running_all, sum_list, sum_lt}
 use Rattle.buffers.specs.Positions.{at}
 use Rattle.masking.proofs.sum_all.Goals as goal

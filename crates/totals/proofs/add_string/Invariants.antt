@@ -4,7 +4,7 @@ use Prim.Native.Nat.{◌+◌, ◌*◌, ◌≤◌}
 use lib.ListN.{length}
 use Rattle.buffers.specs.Overwrite.{overwrite}
 use Rattle.buffers.specs.Positions.{at, table, after}
-use Rattle.conversion.specs.Conversion.{bit_words, row}
+use Rattle.conversion.specs.Conversion.{bit_words}
 use Rattle.totals.specs.Totals.{totals_of}
 use Rattle.totals.proofs.add_string.Given as goal
 
