@@ -19,7 +19,7 @@ use Rattle.polynomial.specs.Calls as polynomial
 use Rattle.polynomial.specs.SecrecyProof.{secrecy}
 use Rattle.noise.specs.Fips203.{sample_poly_cbd}
 use Rattle.noise.specs.Split.{opened_bytes, set_of, noise_checks, noise_split}
-use Rattle.noise.specs.Calls as noise
+use Rattle.noise.proofs.Calls as noise
 
 -- the outcome of an accepted polynomial call whose coefficient t opens to f[t]
 pub record Opens (n k q : ℕ) (f : List ℕ) (o : Outcome ℕ Buffers) : Type 0 where

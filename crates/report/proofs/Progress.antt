@@ -7,7 +7,8 @@ use lib.IntN.{nat_abs}
 use lib.ListN.{length, length-append, length-map}
 use Rattle.tally.specs.Counted.{tally_of}
 use Rattle.tally.specs.Bounds.{Room}
-use Rattle.tally.specs.OneMore.{with_one, tally_one}
+use Rattle.tally.specs.OneMore.{with_one}
+use Rattle.tally.proofs.OneMore.{tally_one}
 use Rattle.tally.specs.declared.Tally.{Tally}
 use Rattle.checks.specs.Checks.{Verdict}
 use Rattle.lesson_file.specs.Records.{Sample}

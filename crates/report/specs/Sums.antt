@@ -4,7 +4,8 @@ use Rattle.std.proofs.Common.{◌∙◌}
 use Rattle.std.proofs.lemmas.List.{length-map}
 use Rattle.residue.specs.Residue.{total}
 use Rattle.tally.specs.Tally.{Line, EachSmall, lines, sumℤ, square, squares}
-use Rattle.tally.specs.LineLaws.{line_total, line_sum, total-printed, sum-printed, squares-printed}
+use Rattle.tally.specs.LineLaws.{line_total, line_sum}
+use Rattle.tally.proofs.LineLaws.{total-printed, sum-printed, squares-printed}
 use Rattle.lesson_samples.specs.Lesson.{value_of, lesson}
 use Rattle.report.specs.Report.{values_of}
 use Rattle.report.specs.Room.{fit-values, samples-fit}

@@ -1,1 +1,3 @@
 pub mod Signed
+pub mod LineLaws
+pub mod OneMore

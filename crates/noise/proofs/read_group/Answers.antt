@@ -3,7 +3,7 @@ use mathlib.Core.Path.{◌≡◌, sym, ap, ◌∙◌}
 use Prim.Native.Nat.{ℕ, ◌*◌}
 use native.Mathlib.Omega.{arith}
 use Rattle.noise.specs.Split.{word_at}
-use Rattle.noise.specs.Groups.{two_bytes, three-bytes}
+use Rattle.noise.proofs.Groups.{two_bytes, three-bytes}
 use Rattle.noise.proofs.read_group.Goals as goal
 
 pub returns-then-k-eq2 : goal.returns-then-k-eq2

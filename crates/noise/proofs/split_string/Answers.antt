@@ -5,7 +5,7 @@ use native.Mathlib.Nat as N
 use native.Mathlib.Omega.{arith}
 use lib.ListN.{length}
 use Rattle.buffers.specs.Columns.{stored, stored-none, stored-all, stored_more, length-stored}
-use Rattle.noise.specs.Groups.{group_x, group_y, group_inside}
+use Rattle.noise.proofs.Groups.{group_x, group_y, group_inside}
 use Rattle.noise.proofs.split_string.Goals as goal
 use Rattle.noise.proofs.split_string.Goals.{At-loop-g, In-loop-g}
 

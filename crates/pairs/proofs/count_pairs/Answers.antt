@@ -3,7 +3,8 @@ use Prim.Native.Nat.{◌<◌}
 use native.Mathlib.Numerals.{add-one}
 use native.Mathlib.Omega.{arith}
 use Rattle.buffers.specs.Positions.{at}
-use Rattle.pairs.specs.Rows.{pair_row, next_row, row-none, row_below, row_next}
+use Rattle.pairs.specs.Rows.{pair_row, next_row, row-none, row_below}
+use Rattle.pairs.proofs.Rows.{row_next}
 use Rattle.pairs.proofs.count_pairs.Goals as goal
 
 pub loop-bits-init : goal.loop-bits-init

@@ -9,7 +9,7 @@ use Rattle.checks.specs.Width.{bit}
 use Rattle.checks.specs.FromBits.{from_bits, from_same, from_append, from_part, from_number}
 use Rattle.noise.specs.Fips203.{bytes_to_bits}
 use Rattle.noise.specs.Split.{noise_string, word_at, x_bit, y_bit}
-use Rattle.noise.specs.BitLaws.{bits-at, are_bits, byte_bit}
+use Rattle.noise.proofs.BitLaws.{bits-at, are_bits, byte_bit}
 
 -- ---- the bytes of a group
 

@@ -17,7 +17,7 @@ use Rattle.binomial.proofs.SetsFit.{sets-fit}
 use Rattle.noise.specs.Fips203.{sample_poly_cbd}
 use Rattle.noise.specs.Split.{noise_string, word_at, x_bit, y_bit, noise_shares, opened_bytes, set_of, noise_checks, Targets, targets, noise_split}
 use Rattle.noise.specs.Accepted.{noise}
-use Rattle.noise.specs.Opened.{length-shares, shares-below, shares_opened, words-difference}
+use Rattle.noise.proofs.Opened.{length-shares, shares-below, shares_opened, words-difference}
 
 -- A target list after an accepted call: the shares in front, which begin where `first` says, and the rest as it was.
 module _ (n k : ℕ) (bytes : List ℕ) (first : ℕ → ℕ → ℕ) (l : List ℕ) where

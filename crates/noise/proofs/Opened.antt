@@ -17,7 +17,7 @@ use Rattle.binomial.specs.Signed.{weight, difference_of_weights}
 use Rattle.binomial.specs.Weight.{weight-bits, bit_sum_from}
 use Rattle.noise.specs.Fips203.{bytes_to_bits, bits_from, sample_poly_cbd}
 use Rattle.noise.specs.Split.{noise_string, word_at, x_bit, y_bit, noise_shares, opened_bytes}
-use Rattle.noise.specs.BitLaws.{bits-at, are_bits}
+use Rattle.noise.proofs.BitLaws.{bits-at, are_bits}
 
 module _ (k : ℕ) (string : List ℕ) (s : ℕ) where
   word_lt : word_at k string s < 2 ^ k
