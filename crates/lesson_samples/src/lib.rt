@@ -22,7 +22,7 @@ use masking::ResidueAnswer;
 use residue::Word;
 
 // A sample that was made: its parameters, how many words it took, its centred value, and where the next one begins.
-#[derive(Drop)]
+#[derive(Clone, Copy)]
 pub struct Sampled {
     pub parameters: Parameters,
     pub used: usize,

@@ -7,7 +7,7 @@ use Rattle.secrecy.specs.Secrecy.{Full, between, Indistinguishable, AgreeBut}
 use Rattle.secrecy.proofs.Laws.{weaken, between-taken, agree-front}
 use Rattle.conversion.specs.Conversion.{bits_at, bit_words}
 use Rattle.conversion.specs.Arrays.{between_drawn}
-use Rattle.conversion.specs.RowTranslation.{FirstBit, first-bit-secrecy}
+use Rattle.conversion.proofs.RowTranslation.{FirstBit, first-bit-secrecy}
 use Rattle.totals.specs.Sample.{sample_shares, sample_words}
 use Rattle.sampler.specs.Sampler.{pair_checks, sampled}
 use Rattle.sampler.specs.Secrecy.{Samples, Room, Secrecy}

@@ -11,8 +11,8 @@ use Rattle.residue.specs.Residue.{sub}
 use Rattle.buffers.specs.Positions.{after, Same}
 use Rattle.checks.specs.Width.{bit}
 use Rattle.conversion.specs.Conversion.{bits_at, bit_words, pairs}
-use Rattle.conversion.specs.ZeroSharing.{transfer-same, refresh_share-same}
-use Rattle.conversion.specs.Laws.{pairs-twice, pairs_up, extend_cong, convert_local}
+use Rattle.conversion.proofs.ZeroSharing.{transfer-same, refresh_share-same}
+use Rattle.conversion.proofs.Laws.{pairs-twice, pairs_up, extend_cong, convert_local}
 use Rattle.totals.specs.Sample.{string_share, sample_words}
 use Rattle.totals.proofs.Totals.{string_share_local}
 use Rattle.records.specs.Laws.{across-same, per_share-same}

@@ -10,7 +10,7 @@ use Rattle.buffers.specs.Overwrite.{overwrite}
 use Rattle.buffers.specs.Positions.{at, table, after, Same, Below}
 use Rattle.buffers.specs.PositionLaws.{after-at, drop-after, table_same, front_at, front-values, front-twice}
 use Rattle.conversion.specs.Conversion.{bit_words, row}
-use Rattle.conversion.specs.Rows.{row_local}
+use Rattle.conversion.proofs.Rows.{row_local}
 use Rattle.totals.specs.Sample.{string_share, sample_share, sample_shares}
 use Rattle.totals.specs.Totals.{signed_sum, with_row, totals_of}
 
