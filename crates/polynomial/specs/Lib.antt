@@ -4,4 +4,3 @@ pub mod Accepted
 pub mod Calls
 pub mod Area
 pub mod SecrecyProof
-pub mod OneCoefficient
