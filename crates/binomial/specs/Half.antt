@@ -1,24 +1,22 @@
--- Where document 02's A.9 changed what is answered for a residue: exactly at 2r = q, and for no sample.
-use Rattle.std.specs.Prelude.{◌≡◌, Bool, cond, ◌≢◌, ℕ, suc, ◌+◌, ◌*◌, ◌-◌, ◌≤◌, ltb, ℤ, nat_abs, ◌-ℤ◌}
+-- Where document 02's A.9 changed what is answered for a residue: exactly at 2r = q.
+use Rattle.std.specs.Prelude.{◌≡◌, Bool, cond, ◌≢◌, ℕ, suc, ◌*◌, ◌-◌, ◌≤◌, ltb, ℤ, ◌-ℤ◌}
 use Rattle.std.proofs.Math.Path.{sym, ap}
-use Rattle.std.proofs.Common.{subst, ◌∙◌, arith}
+use Rattle.std.proofs.Common.{◌∙◌, arith}
 use Rattle.std.proofs.Math.Decide.{dec_le}
 use borrow.Author.Tests.{lt-ltb, le-ltb, le-leb, lt-leb}
 use Rattle.std.proofs.Math.IntN.{pos, pos-ne-negsuc}
-use Rattle.residue.specs.Residue.{reduceℤ}
 use Rattle.residue.proofs.Integers.{minus-below}
 use Rattle.checks.specs.Checks.{Verdict, accepted, verdict}
 use Rattle.checks.specs.Laws.{leb_same, accepts, fail, same_answer}
 use Rattle.binomial.specs.Signed.{centre_checks, centred}
-use Rattle.binomial.specs.Centring.{centred-sample}
 
 module _ (q r : ℕ) where
   -- document 01's answer: r where 2r is below q, else r - q
-  abbrev before : Verdict ℤ
+  abbrev pub before : Verdict ℤ
   before = verdict (centre_checks q r) (cond (ltb (2 * r) q) (pos r) (pos r -ℤ pos q))
 
   -- the half of a modulus that check 3 lets pass
-  abbrev Half : Type 0
+  abbrev pub Half : Type 0
   Half = (3 ≤ q) × (2 * r ≡ q)
 
   pub same_elsewhere : (Half → ⊥) → before ≡ centred q r
@@ -46,11 +44,3 @@ module _ (q r : ℕ) where
 
     pub half_differs : before ≢ centred q r
     half_differs e = pos-ne-negsuc r (q - suc r) (same_answer (sym half_now ∙ sym e ∙ half_before) ∙ minus-below r q (omega (arith, h)))
-
--- for a sample z from -k to k, at any q of at least 2k + 1
-pub sample-same : (k q : ℕ) → 2 * k + 1 ≤ q → 1 ≤ k → (z : ℤ) → nat_abs z ≤ k → before q (reduceℤ q z) ≡ centred q (reduceℤ q z)
-sample-same k q h p z l =
-    same_elsewhere q (reduceℤ q z) (λ s.
-    let e = same_answer (sym (half_now q (reduceℤ q z) s) ∙ centred-sample k q h p z l) in
-    let m : reduceℤ q z ≤ k = subst (λ (y : ℤ). nat_abs y ≤ k) (sym e) l in
-    omega (arith, s))

@@ -3,7 +3,6 @@ pub mod Sets
 pub mod Answers
 pub mod Weight
 pub mod Fips204
-pub mod Centring
 pub mod Half
 pub mod SetsFit
 pub mod SetLaws

@@ -14,10 +14,7 @@ use Rattle.std.proofs.Math.Dec.{ltb}
 use Rattle.residue.specs.Residue.{EachBelow}
 use Rattle.checks.specs.Search.{first_from}
 use Rattle.checks.specs.Checks.{Check, Verdict, accepted, refused, verdict, checked, settled, within, is_none, or_zero, all_below_from, word_checks}
-use Rattle.checks.specs.Answers.{checked_reading, refusal_reading, found_reading}
-use Rattle.checks.specs.declared.Refusal.{Refusal}
-use Rattle.checks.specs.declared.Checked.{Checked}
-use Rattle.checks.specs.declared.Checked.TheVariants.{Passed, Failed}
+use Rattle.checks.specs.Answers.{found_reading}
 use Rattle.checks.specs.declared.Found.{Found}
 use Rattle.checks.specs.declared.Found.TheVariants.{At, Nothing}
 

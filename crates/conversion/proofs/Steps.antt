@@ -13,8 +13,8 @@ use Rattle.buffers.specs.Positions.{at, table, after, Same, Below}
 use Rattle.buffers.specs.PositionLaws.{table_same, after-after, set_agrees}
 use Rattle.checks.specs.Width.{bit-lowest}
 use Rattle.conversion.specs.Conversion.{bits_at, extend, less_twice, xor_bit, xor_share, refresh_share, refresh, convert_bit, bit_shares}
-use Rattle.conversion.specs.ZeroSharing.{zero_sharing, refresh_share_gains, refresh_share_loses, refresh_adds}
-use Rattle.conversion.specs.Laws.{less_twice_zero, less_twice-one, extend-below, extend_from, convert_bit_local}
+use Rattle.conversion.proofs.ZeroSharing.{zero_sharing, refresh_share_gains, refresh_share_loses, refresh_adds}
+use Rattle.conversion.proofs.Laws.{less_twice_zero, less_twice-one, extend-below, extend_from, convert_bit_local}
 use Rattle.conversion.specs.Arrays.{Holds}
 
 -- ---- a difference, less twice its product with a bit

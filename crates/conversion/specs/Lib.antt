@@ -1,13 +1,5 @@
 pub mod Conversion
 pub mod Arrays
 pub mod Secrecy
-pub mod ZeroSharing
-pub mod Laws
-pub mod Lists
-pub mod Rows
 pub mod Accepted
 pub mod Written
-pub mod Calls
-pub mod Translation
-pub mod RowTranslation
-pub mod SecrecyProof

@@ -18,7 +18,7 @@ pub record AlikeBut (ℓ n q answered : ℕ) (written : List ℕ) (opened : ℕ)
   pub other : Converts n q answered written' opened' o'
   pub agree : AgreeBut ℓ n o.buffers o'.buffers
 
--- For every share ℓ left out and any two shared bits that pass their checks: a one_to_one map of the full lists of words makes the two calls
+-- For every share ℓ left out and any two shared bits that pass their checks: a one-to-one map of the full lists of words makes the two calls
 -- alike in all other shares, whatever words stand before and behind them, the same in both, and whatever stood in their outputs before. Each
 -- answers the position after its words, its shares are those of the written steps, and their residue is its own bit.
 unfoldable pub BitSecrecy : ℕ → ℕ → Type 0

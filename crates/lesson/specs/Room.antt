@@ -8,8 +8,8 @@ use Rattle.buffers.specs.Positions.{at}
 use Rattle.checks.specs.Laws.{Hold}
 use Rattle.totals.specs.Sample.{sample_words}
 use Rattle.sampler.specs.Accepted.{SharedPair}
-use Rattle.sampler.specs.Calls.{length-shares, shares-below}
-use Rattle.sampler.specs.Opened.{sample_le}
+use Rattle.sampler.proofs.Calls.{length-shares, shares-below}
+use Rattle.sampler.proofs.Opened.{sample_le}
 use Rattle.lesson_file.specs.Layouts.{WholeSample, whole-sample, layout_next, layout_end}
 use Rattle.lesson_file.specs.Records.{number, Sample, sample_of, layout_at, layout_checks}
 use Rattle.lesson_file.specs.declared.Layout.{Layout}

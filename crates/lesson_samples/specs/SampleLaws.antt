@@ -16,8 +16,8 @@ use Rattle.checks.specs.Answers.{outcome}
 use Rattle.binomial.specs.Signed.{centred_value}
 use Rattle.totals.specs.Sample.{sample_words}
 use Rattle.sampler.specs.Accepted.{SharedPair, shared_pair}
-use Rattle.sampler.specs.Calls.{length-shares, shares-below}
-use Rattle.sampler.specs.Opened.{sample_le, shares-centred}
+use Rattle.sampler.proofs.Calls.{length-shares, shares-below}
+use Rattle.sampler.proofs.Opened.{sample_le, shares-centred}
 use Rattle.lesson_file.specs.Records.{Sample, sample_of}
 use Rattle.lesson_file.specs.RecordLaws.{holds-located, length-words}
 use Rattle.lesson_file.specs.Layouts.{WholeSample}

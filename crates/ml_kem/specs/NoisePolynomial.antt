@@ -76,7 +76,7 @@ module _ (n number : ℕ) where
             ∙ ap accepted (noise.coefficient_opened n number s.bytes s.x-before s.y-before (checks s) t l q);
       }
 
-  -- And of two accepted splits, no n - 1 shares of each coefficient tell the one from the other: a one_to_one map of the full lists of words makes
+  -- And of two accepted splits, no n - 1 shares of each coefficient tell the one from the other: a one-to-one map of the full lists of words makes
   -- the two polynomial calls alike in all shares but one in each coefficient.
   pub noise-secrecy : (ℓ : ℕ → ℕ) → ((t : ℕ) → t < 256 → ℓ t < n) → (s s' : AcceptedSplit)
       → Indistinguishable (Full q W) (λ words words'. (out work out' work' : List ℕ) → Room (256 * n) n out work → Room (256 * n) n out' work'

@@ -13,7 +13,7 @@ use Rattle.checks.specs.Checks.{Check, Outcome, accepted, verdict, is_none, shar
 use Rattle.checks.specs.Laws.{Hold, within_true, each-below-none, accepts, accepted-holds, settled-answer, settled-accepted, settled_keeps}
 use Rattle.masking.specs.Sharing.{xor_all, open_string_checks, opened_string}
 use Rattle.binomial.specs.Signed.{difference_of_weights}
-use Rattle.binomial.specs.SetsFit.{sets-fit}
+use Rattle.binomial.proofs.SetsFit.{sets-fit}
 use Rattle.noise.specs.Fips203.{sample_poly_cbd}
 use Rattle.noise.specs.Split.{noise_string, word_at, x_bit, y_bit, noise_shares, opened_bytes, set_of, noise_checks, Targets, targets, noise_split}
 use Rattle.noise.specs.Accepted.{noise}

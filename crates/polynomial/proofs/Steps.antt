@@ -12,7 +12,7 @@ use Rattle.buffers.specs.PositionLaws.{table_list, front_same}
 use Rattle.buffers.specs.Rows.{rows_none, rows_next, rows-length}
 use Rattle.buffers.specs.Blocks.{length-block, block_at, part-block, put_block}
 use Rattle.totals.specs.Sample.{sample_shares, sample_words}
-use Rattle.sampler.specs.Calls.{shares_local}
+use Rattle.sampler.proofs.Calls.{shares_local}
 use Rattle.polynomial.specs.Polynomial.{coefficient_shares, polynomial_shares}
 use Rattle.polynomial.specs.Calls.{length-coefficient}
 

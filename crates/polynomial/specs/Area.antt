@@ -3,7 +3,7 @@ use Rattle.std.specs.Prelude.{◌≡◌, List, ◌++◌, ◌≢◌, ℕ, ◌*◌
 use Rattle.std.proofs.Math.Path.{refl}
 use Rattle.checks.specs.Checks.{Outcome, accepted, refused, buffer_checks}
 use Rattle.sampler.specs.Sampler.{Buffers, shares_written}
-use Rattle.sampler.specs.Area.{area-accepted, area_turned_down, area-refused, area_smaller}
+use Rattle.sampler.proofs.Area.{area-accepted, area_turned_down, area-refused, area_smaller}
 use Rattle.polynomial.specs.Polynomial.{polynomial_shares, polynomial_words, strings_checks, sampled_polynomial}
 use Rattle.polynomial.specs.Accepted.{first-pair, shared_strings}
 

@@ -17,9 +17,9 @@ use Rattle.totals.specs.Sample.{sample_shares, sample_words}
 use Rattle.sampler.specs.Sampler.{Buffers, both}
 use Rattle.sampler.specs.Secrecy.{SharesOf}
 use Rattle.sampler.specs.Accepted.{SharedPair, shared_pair}
-use Rattle.sampler.specs.Calls.{length-shares, shares_of, shares-below}
-use Rattle.sampler.specs.Written.{written-out-kept, written-work-kept, written-accepted, written-shares, written-zeros, written-before, written-words}
-use Rattle.sampler.specs.Opened.{shares_opened, residue-centred}
+use Rattle.sampler.proofs.Calls.{length-shares, shares_of, shares-below}
+use Rattle.sampler.proofs.Written.{written-out-kept, written-work-kept, written-accepted, written-shares, written-zeros, written-before, written-words}
+use Rattle.sampler.proofs.Opened.{shares_opened, residue-centred}
 use Rattle.polynomial.specs.Polynomial.{coefficient_shares, polynomial_shares, polynomial_words, strings_checks, polynomial_checks, sampled_polynomial}
 use Rattle.polynomial.specs.Secrecy.{Polynomial}
 use Rattle.polynomial.specs.Accepted.{SharedStrings, polynomial_some, shared_strings, call-strings}

@@ -10,8 +10,8 @@ use Rattle.checks.specs.Checks.{Check, verdict, parameter_checks, share_checks, 
 use Rattle.checks.specs.Laws.{pass, same-behind}
 use Rattle.totals.specs.Sample.{sample_shares, sample_words}
 use Rattle.sampler.specs.Sampler.{sample_checks, sampled}
-use Rattle.sampler.specs.Calls.{shares-words, call-written}
-use Rattle.sampler.specs.Written.{written_same}
+use Rattle.sampler.proofs.Calls.{shares-words, call-written}
+use Rattle.sampler.proofs.Written.{written_same}
 use Rattle.polynomial.specs.Polynomial.{coefficient_shares, polynomial_shares, polynomial_words, coefficient_count, polynomial_checks, sampled_polynomial}
 use Rattle.polynomial.specs.Accepted.{SharedStrings, first-pair, call-strings}
 use Rattle.polynomial.specs.Calls.{length_polynomial, polynomial_coefficient}

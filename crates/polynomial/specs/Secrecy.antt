@@ -20,7 +20,7 @@ pub record AlikeBut (ℓ : ℕ → ℕ) (n k q m : ℕ) (x y words : List ℕ) (
   pub other : Polynomial n k q m x' y' words' o'
   pub agree : (t : ℕ) → t < m → AgreeBut (ℓ t) n (block n t o.buffers.out) (block n t o'.buffers.out)
 
--- For every choice of a share left out in each coefficient and any two pairs of lists that pass the checks down to 7: a one_to_one map of the
+-- For every choice of a share left out in each coefficient and any two pairs of lists that pass the checks down to 7: a one-to-one map of the
 -- full lists of words makes the two calls alike in all other shares, whatever stood in their buffers before.
 unfoldable pub PolynomialSecrecy : ℕ → ℕ → ℕ → ℕ → Type 0
 PolynomialSecrecy n k q m =

@@ -8,7 +8,7 @@ use Rattle.secrecy.proofs.Laws.{weaken}
 use Rattle.secrecy.proofs.Blocks.{blocks}
 use Rattle.totals.specs.Sample.{sample_shares, sample_words}
 use Rattle.sampler.specs.Accepted.{pair-large, fit-holds}
-use Rattle.sampler.specs.SecrecyProof.{shares-secrecy}
+use Rattle.sampler.proofs.SecrecyProof.{shares-secrecy}
 use Rattle.polynomial.specs.Polynomial.{coefficient_shares, polynomial_words, strings_checks}
 use Rattle.polynomial.specs.Secrecy.{PolynomialSecrecy}
 use Rattle.polynomial.specs.Accepted.{shared_strings, first-pair}

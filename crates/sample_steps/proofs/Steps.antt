@@ -12,7 +12,8 @@ use Rattle.buffers.specs.Positions.{at, table, after, Same}
 use Rattle.buffers.specs.PositionLaws.{front_at}
 use Rattle.conversion.specs.Conversion.{bits_at, bit_words, convert_bit, row}
 use Rattle.totals.specs.Sample.{string_share}
-use Rattle.totals.specs.Totals.{signed_sum, signed_zero, totals_of, totals-row}
+use Rattle.totals.specs.Totals.{signed_sum, totals_of}
+use Rattle.totals.proofs.Totals.{signed_zero, totals-row}
 use Rattle.records.specs.Records.{Step, across, Fits, Recorded}
 use Rattle.records.specs.Laws.{across-same, across_from, per_share-same, fits-first, Left, left-all, left-next, left-none}
 use Rattle.steps.specs.Steps.{convert_steps, bit_steps, string_steps, record_count}

@@ -15,7 +15,7 @@ use Rattle.checks.specs.Laws.{Hold, fail, hold-front, accepted-holds, passes-par
 use Rattle.totals.specs.Sample.{sample_share, sample_words}
 use Rattle.sampler.specs.Sampler.{Buffers, both, pair_checks, sample_checks, sampled}
 use Rattle.sampler.specs.Accepted.{SharedPair, shared_pair, pair-large, words-some, call-checks}
-use Rattle.sampler.specs.Calls.{call-words}
+use Rattle.sampler.proofs.Calls.{call-words}
 use Rattle.records.specs.Records.{Step, step, none, step_bytes, record_bytes, bytes}
 use Rattle.records.specs.Laws.{length-bytes}
 use Rattle.steps.specs.Steps.{step_records, record_count}

@@ -6,7 +6,7 @@ use Rattle.residue.specs.Residue.{EachBelow}
 use Rattle.checks.specs.Checks.{Check, at_least, buffer_checks}
 use Rattle.checks.specs.Laws.{Hold, hold-front, within_true, none-each-below}
 use Rattle.conversion.specs.Conversion.{bit_words}
-use Rattle.conversion.specs.Laws.{bit_words-some}
+use Rattle.conversion.proofs.Laws.{bit_words-some}
 use Rattle.conversion.specs.Arrays.{Drawn}
 use Rattle.conversion.specs.Accepted as output
 use Rattle.totals.specs.Sample.{sample_words}

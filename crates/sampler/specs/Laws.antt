@@ -12,9 +12,9 @@ use Rattle.masking.specs.Xor.{xor_all_lt}
 use Rattle.binomial.specs.Signed.{weight}
 use Rattle.binomial.specs.Weight.{sum-bits, weight-bits}
 use Rattle.conversion.specs.Conversion.{bit_words, row}
-use Rattle.conversion.specs.Rows.{row-sum}
+use Rattle.conversion.proofs.Rows.{row-sum}
 use Rattle.totals.specs.Sample.{string_share, sample_share, sample_words}
-use Rattle.totals.specs.Totals.{string_share_local}
+use Rattle.totals.proofs.Totals.{string_share_local}
 
 module _ (q n : ℕ) (large : 2 < q) where
   abbrev positive : 0 < q

@@ -2,9 +2,4 @@ pub mod Sampler
 pub mod Secrecy
 pub mod Laws
 pub mod Accepted
-pub mod Written
-pub mod Calls
-pub mod Area
-pub mod Opened
 pub mod Translation
-pub mod SecrecyProof

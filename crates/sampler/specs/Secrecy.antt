@@ -30,7 +30,7 @@ pub record AlikeBut (ℓ n k q start : ℕ) (x y words : List ℕ) (o : Outcome 
 abbrev pub Room : ℕ → ℕ → List ℕ → List ℕ → Type 0
 Room shares zeros out work = (shares ≤ length out) × (zeros ≤ length work)
 
--- For every share ℓ left out and any two pairs of shared strings that pass the checks 1 to 7: a one_to_one map of the full lists of words
+-- For every share ℓ left out and any two pairs of shared strings that pass the checks 1 to 7: a one-to-one map of the full lists of words
 -- makes the two calls alike in all other shares, whatever words stand before and behind them, the same in both, and whatever stood in their
 -- buffers before.
 unfoldable pub Secrecy : ℕ → ℕ → ℕ → Type 0

@@ -8,8 +8,8 @@ use Rattle.residue.proofs.Sum.{sum_cong}
 use Rattle.buffers.specs.Positions.{after, Same}
 use Rattle.secrecy.proofs.Translation.{Invariant}
 use Rattle.conversion.specs.Conversion.{bits_at, bit_words, row}
-use Rattle.conversion.specs.RowTranslation.{row-form, words-behind, rows_behind, moving}
-use Rattle.conversion.specs.Translation.{bit_form}
+use Rattle.conversion.proofs.RowTranslation.{row-form, words-behind, rows_behind, moving}
+use Rattle.conversion.proofs.Translation.{bit_form}
 use Rattle.totals.specs.Sample.{string_share, sample_share}
 
 module _ (q n m : ℕ) (x y : ℕ → ℕ) where

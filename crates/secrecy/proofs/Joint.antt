@@ -1,6 +1,5 @@
 -- What is drawn in parts, one after the other: the map of a later part may depend on the earlier ones, in both runs.
 use Rattle.std.specs.Prelude.{◌≡◌}
-use Rattle.std.proofs.Common.{sym, ap, ◌∙◌}
 use Rattle.secrecy.specs.Secrecy.{OneToOne, Indistinguishable}
 use Rattle.secrecy.proofs.Laws.{undone-one_to_one}
 

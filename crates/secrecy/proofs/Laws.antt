@@ -1,4 +1,4 @@
--- Laws of one_to_one maps and of runs that cannot be told apart.
+-- Laws of one-to-one maps and of runs that cannot be told apart.
 use Rattle.std.specs.Prelude.{◌≡◌, refl, List, ◌++◌, ℕ, length, take, drop}
 use Rattle.std.proofs.Common.{sym, ap, ◌∙◌, get_or-take, take_at}
 use Rattle.std.proofs.Math.Seq.{drop-append_seam}

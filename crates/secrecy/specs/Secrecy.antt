@@ -12,7 +12,7 @@ pub record Full (q W : ℕ) (ws : List ℕ) : Type 0 where
 abbrev pub between : List ℕ → List ℕ → List ℕ → List ℕ
 between before ws behind = before ++ (ws ++ behind)
 
--- A one_to_one map of the full lists (or whatever else P tells) onto themselves: the image of a full list is full, different ones have
+-- A one-to-one map of the full lists (or whatever else P tells) onto themselves: the image of a full list is full, different ones have
 -- different images, and every full list is the image of one.
 pub record OneToOne {T : Type 0} (P : T → Type 0) (f : T → T) : Type 0 where
   pub full : (w : T) → P w → P (f w)
@@ -21,7 +21,7 @@ pub record OneToOne {T : Type 0} (P : T → Type 0) (f : T → T) : Type 0 where
   pub origin-full : (w : T) → P w → P (origin w)
   pub image : (w : T) → P w → f (origin w) ≡ w
 
--- Two runs cannot be told apart: some one_to_one map, chosen before the words, takes every full list v to one, w, such that the one run
+-- Two runs cannot be told apart: some one-to-one map, chosen before the words, takes every full list v to one, w, such that the one run
 -- on v and the other on w are alike. So where the words are drawn evenly, whatever is the same in runs that are alike comes equally often.
 pub record Indistinguishable {T : Type 0} (P : T → Type 0) (Alike : T → T → Type 0) : Type 0 where
   pub map : T → T

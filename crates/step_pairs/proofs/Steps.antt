@@ -10,7 +10,7 @@ use Rattle.residue.specs.Residue.{add, sub}
 use Rattle.buffers.specs.Positions.{at, after, Below}
 use Rattle.buffers.specs.PositionLaws.{after-after, set_agrees}
 use Rattle.conversion.specs.Conversion.{transfer, refresh_share, refresh_from}
-use Rattle.conversion.specs.ZeroSharing.{transfer_gains, transfer_loses, transfer_keeps, transfer-below, refresh_share-below}
+use Rattle.conversion.proofs.ZeroSharing.{transfer_gains, transfer_loses, transfer_keeps, transfer-below, refresh_share-below}
 use Rattle.records.specs.Records.{Step, step, Fits, Recorded}
 use Rattle.records.specs.Laws.{recorded_then, fits-first, Left, left-next, left-none}
 use Rattle.steps.specs.Steps.{pair_steps, refresh_share_steps, refresh_steps}

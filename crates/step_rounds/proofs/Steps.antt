@@ -7,7 +7,7 @@ use native.Mathlib.Omega.{arith}
 use Rattle.residue.specs.Residue.{add, mul}
 use Rattle.buffers.specs.Positions.{at, after, Below}
 use Rattle.conversion.specs.Conversion.{pairs, extend, less_twice, xor_bit, xor_share, convert}
-use Rattle.conversion.specs.Laws.{extend_lt, extend_cong}
+use Rattle.conversion.proofs.Laws.{extend_lt, extend_cong}
 use Rattle.conversion.specs.Arrays.{Holds}
 use Rattle.records.specs.Records.{Step, across, step}
 use Rattle.records.specs.Laws.{across-last, per_share-same}

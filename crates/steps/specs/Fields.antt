@@ -8,9 +8,9 @@ use Rattle.residue.proofs.Laws.{add_lt, mul_lt}
 use Rattle.residue.proofs.Sum.{each-below-append}
 use Rattle.buffers.specs.Positions.{at, Below}
 use Rattle.checks.specs.Width.{bit_lt}
-use Rattle.conversion.specs.Laws.{pairs-most, extend_lt, convert_lt}
-use Rattle.conversion.specs.ZeroSharing.{transfer-below}
-use Rattle.totals.specs.Totals.{string_share_lt}
+use Rattle.conversion.proofs.Laws.{pairs-most, extend_lt, convert_lt}
+use Rattle.conversion.proofs.ZeroSharing.{transfer-below}
+use Rattle.totals.proofs.Totals.{string_share_lt}
 use Rattle.records.specs.Records.{Step, step, none, step_bytes, bytes}
 use Rattle.steps.specs.Steps.{step_records, record_count}
 use Rattle.steps.specs.Walk.{BitRecords, sample-each}

@@ -11,10 +11,10 @@ use Rattle.residue.specs.Residue.{sub}
 use Rattle.buffers.specs.Positions.{after, Same}
 use Rattle.checks.specs.Width.{bit}
 use Rattle.conversion.specs.Conversion.{bits_at, bit_words, pairs}
-use Rattle.conversion.specs.ZeroSharing.{transfer-same, refresh_share-same}
-use Rattle.conversion.specs.Laws.{pairs-twice, pairs_up, extend_cong, convert_local}
+use Rattle.conversion.proofs.ZeroSharing.{transfer-same, refresh_share-same}
+use Rattle.conversion.proofs.Laws.{pairs-twice, pairs_up, extend_cong, convert_local}
 use Rattle.totals.specs.Sample.{string_share, sample_words}
-use Rattle.totals.specs.Totals.{string_share_local}
+use Rattle.totals.proofs.Totals.{string_share_local}
 use Rattle.records.specs.Laws.{across-same, per_share-same}
 use Rattle.steps.specs.Steps.{added_steps, round_steps, pair_steps, refresh_share_steps, refresh_steps, convert_steps, string_steps, sample_steps}
 

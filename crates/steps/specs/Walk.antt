@@ -8,7 +8,7 @@ use Rattle.std.proofs.Math.ListN.{get_or-append}
 use Rattle.residue.specs.Residue.{mul, sub}
 use Rattle.buffers.specs.Positions.{after}
 use Rattle.conversion.specs.Conversion.{bits_at, bit_words, pairs, extend, xor_share, convert, transfer, refresh_share}
-use Rattle.conversion.specs.Laws.{pairs-twice}
+use Rattle.conversion.proofs.Laws.{pairs-twice}
 use Rattle.totals.specs.Sample.{string_share}
 use Rattle.records.specs.Records.{Step, step, none, across}
 use Rattle.records.specs.Laws.{across-last}

@@ -8,7 +8,8 @@ use Rattle.buffers.specs.Positions.{at, table, Same, Below}
 use Rattle.buffers.specs.PositionLaws.{table_same, front_at, front-twice}
 use Rattle.conversion.specs.Conversion.{row}
 use Rattle.values.specs.Values.{value_share}
-use Rattle.values.specs.Doubling.{doubled, binary_lt, upper, upper-none, upper-next, upper-all}
+use Rattle.values.specs.Doubling.{doubled}
+use Rattle.values.proofs.Doubling.{binary_lt, upper, upper-none, upper-next, upper-all}
 
 -- what becomes of n totals
 abbrev pub doubled_of : ℕ → ℕ → List ℕ → List ℕ → List ℕ

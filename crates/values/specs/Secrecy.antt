@@ -8,7 +8,7 @@ use Rattle.conversion.specs.Conversion.{value_words, string_checks}
 use Rattle.conversion.specs.Secrecy.{AlikeBut}
 use Rattle.values.specs.Values.{value_shares, converted_value}
 
--- For every share ℓ left out and any two shared strings that pass the checks down to 6: a one_to_one map of the full lists of words makes the
+-- For every share ℓ left out and any two shared strings that pass the checks down to 6: a one-to-one map of the full lists of words makes the
 -- two calls alike in all other shares, whatever words stand behind them, the same in both, and whatever stood in their outputs before. Each
 -- answers the number of its words, its shares are those of the written steps, and their residue is its own string's number modulo q.
 unfoldable pub ValueSecrecy : ℕ → ℕ → ℕ → Type 0

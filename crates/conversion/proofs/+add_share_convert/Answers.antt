@@ -6,8 +6,8 @@ use Rattle.buffers.specs.Positions.{at}
 use Rattle.buffers.specs.PositionLaws.{after-at}
 use Rattle.conversion.specs.Conversion.{pairs}
 use Rattle.conversion.specs.Arrays.{drawn_part}
-use Rattle.conversion.specs.Laws.{pairs-few, pairs-step}
-use Rattle.conversion.specs.Lists.{one_list, holds-below, share_added}
+use Rattle.conversion.proofs.Laws.{pairs-few, pairs-step}
+use Rattle.conversion.proofs.Lists.{one_list, holds-below, share_added}
 use Rattle.conversion.proofs.+add_share_convert.Goals as goal
 
 pub add_share-convert-first-requires : goal.add_share-convert-first-requires

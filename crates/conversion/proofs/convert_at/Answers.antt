@@ -7,9 +7,9 @@ use Rattle.buffers.specs.Positions.{at, after}
 use Rattle.buffers.specs.PositionLaws.{after-at, table_same}
 use Rattle.conversion.specs.Conversion.{pairs}
 use Rattle.conversion.specs.Conversion as C
-use Rattle.conversion.specs.Laws.{pairs-twice}
+use Rattle.conversion.proofs.Laws.{pairs-twice}
 use Rattle.conversion.specs.Arrays.{Holds, drawn_part}
-use Rattle.conversion.specs.Lists.{holds-below, bit-done}
+use Rattle.conversion.proofs.Lists.{holds-below, bit-done}
 use Rattle.conversion.proofs.convert_at.Goals as goal
 use Rattle.conversion.proofs.convert_at.Goals.{After-add_share-first}
 

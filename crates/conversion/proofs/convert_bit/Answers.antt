@@ -14,8 +14,8 @@ use Rattle.buffers.specs.Positions.{at, table, after, Same, Below}
 use Rattle.buffers.specs.PositionLaws.{front_same}
 use Rattle.conversion.specs.Conversion.{convert_bit, bit_words, bit_shares, sharing_checks, bit_checks, converted}
 use Rattle.conversion.specs.Accepted.{SharedString, shared_bit, fit-first, fit_drawn, fit-room}
-use Rattle.conversion.specs.Calls.{bit-checks}
-use Rattle.conversion.specs.SecrecyProof.{bit-secrecy}
+use Rattle.conversion.proofs.Calls.{bit-checks}
+use Rattle.conversion.proofs.SecrecyProof.{bit-secrecy}
 use Rattle.conversion.proofs.Steps.{bit_alone}
 use Rattle.conversion.proofs.convert_bit.Goals as goal
 use Rattle.conversion.proofs.convert_bit.Goals.{After-bits_at-lowest, After-check_value, In_default}

@@ -3,7 +3,7 @@ use mathlib.Core.Path.{◌≡◌, sym, ◌∙◌}
 use native.Mathlib.Omega.{arith}
 use Rattle.residue.specs.Residue.{sub}
 use Rattle.conversion.specs.Conversion.{less_twice}
-use Rattle.conversion.specs.Laws.{less_twice_lt}
+use Rattle.conversion.proofs.Laws.{less_twice_lt}
 use Rattle.conversion.proofs.Steps.{less_twice_cswap}
 use Rattle.conversion.proofs.less_twice.Goals as goal
 use Rattle.conversion.proofs.less_twice.Goals.{After-cswap_sub}

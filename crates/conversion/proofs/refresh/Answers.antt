@@ -6,7 +6,7 @@ use Rattle.buffers.specs.Positions.{at}
 use Rattle.buffers.specs.Rows.{values-none, values-next, values-all}
 use Rattle.conversion.specs.Conversion.{pairs}
 use Rattle.conversion.specs.Arrays.{drawn_part}
-use Rattle.conversion.specs.Laws.{pairs-few, pairs-step}
+use Rattle.conversion.proofs.Laws.{pairs-few, pairs-step}
 use Rattle.conversion.proofs.Steps.{remaining_all, share-done, remaining_next}
 use Rattle.conversion.proofs.refresh.Goals as goal
 use Rattle.conversion.proofs.refresh.Goals.{In-loop-i}

@@ -5,7 +5,7 @@ use native.Mathlib.Omega.{arith}
 use lib.ListN.{set}
 use Rattle.residue.proofs.Laws.{add_cong, add_lt}
 use Rattle.buffers.specs.Positions.{at, after}
-use Rattle.conversion.specs.Laws.{less_twice_lt}
+use Rattle.conversion.proofs.Laws.{less_twice_lt}
 use Rattle.conversion.proofs.Steps.{Turned, turned_none, turned_below, turned_at, turned_past, turned_lt, turned_all}
 use Rattle.conversion.proofs.xor_share.Goals as goal
 use Rattle.conversion.proofs.xor_share.Goals.{After-widen-r, then-i-j, else-i-j+then-i-j-2, else-i-j+else-i-j-2}

@@ -5,7 +5,7 @@ use Rattle.checks.specs.Checks.{accepted, checked}
 use Rattle.checks.specs.Laws.{Past, pass, fail, within_true, passes-part}
 use Rattle.binomial.specs.Answers.{set_reading}
 use Rattle.binomial.specs.Sets.{set_checks, parameter_set}
-use Rattle.binomial.specs.SetsFit.{sets-fit}
+use Rattle.binomial.proofs.SetsFit.{sets-fit}
 use Rattle.binomial.specs.SetLaws.{set_there, set-refused}
 use Rattle.noise.specs.Split.{or_none, list_checks, noise_checks}
 use Rattle.noise.proofs.check_noise.Goals as goal

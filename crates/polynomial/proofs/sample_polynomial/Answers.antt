@@ -11,7 +11,7 @@ use Rattle.conversion.specs.Arrays.{Drawn}
 use Rattle.sampler.specs.Sampler.{both}
 use Rattle.sampler.specs.Secrecy.{Room}
 use Rattle.sampler.specs.Accepted.{pair-large, fit_drawn, fit-room}
-use Rattle.sampler.specs.Written.{answered}
+use Rattle.sampler.proofs.Written.{answered}
 use Rattle.polynomial.specs.Polynomial.{polynomial_words, strings_checks, sampled_polynomial}
 use Rattle.polynomial.specs.Accepted.{SharedStrings, first-pair, call-strings}
 use Rattle.polynomial.specs.SecrecyProof.{secrecy}

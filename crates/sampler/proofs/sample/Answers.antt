@@ -14,9 +14,9 @@ use Rattle.totals.specs.Sample.{sample_words, sample_shares}
 use Rattle.sampler.specs.Sampler.{pair_checks, both, sampled}
 use Rattle.sampler.specs.Secrecy.{Room}
 use Rattle.sampler.specs.Accepted.{SharedPair, shared_pair, pair-large, fit_drawn, fit-room, call-checks}
-use Rattle.sampler.specs.Calls.{shares_local}
-use Rattle.sampler.specs.Written.{answered}
-use Rattle.sampler.specs.SecrecyProof.{secrecy}
+use Rattle.sampler.proofs.Calls.{shares_local}
+use Rattle.sampler.proofs.Written.{answered}
+use Rattle.sampler.proofs.SecrecyProof.{secrecy}
 use Rattle.sampler.proofs.sample.Goals as goal
 use Rattle.sampler.proofs.sample.Goals.{After-write_sample, In_default}
 

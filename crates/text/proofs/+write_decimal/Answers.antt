@@ -17,8 +17,8 @@ module _ (t : ℕ) (c : Joined-value-ge10 t) where
   leading_wrote =
       let n = wrote_nothing c.args.text.now c.args.at in
       elim c.if-value-ge10.branch [
-        | then-value-ge10 w ↦ rw (leading-large _ w.if-value-ge10.true) (w.text-is ∙ w.write_decimal-last.ensures.0, w.last-is ∙ w.write_decimal-last.ensures.1)
-        | else-value-ge10 w ↦ rw (leading-small _ w.if-value-ge10.false) (w.text-is ∙ n.0, w.last-is ∙ n.1)
+        | then-value-ge10 w ↦ rw (leading-large c.args.value (omega (arith, w.if-value-ge10.true))) (w.text-is ∙ w.write_decimal-last.ensures.0, w.last-is ∙ w.write_decimal-last.ensures.1)
+        | else-value-ge10 w ↦ rw (leading-small c.args.value (omega (arith, w.if-value-ge10.false))) (w.text-is ∙ n.0, w.last-is ∙ n.1)
       ]
 
   kept : length c.if-value-ge10.text ≡ length c.args.text.now
@@ -26,7 +26,7 @@ module _ (t : ℕ) (c : Joined-value-ge10 t) where
 
 pub write_decimal-last-requires : goal.write_decimal-last-requires
 write_decimal-last-requires t c =
-    let e = ap length (leading-large c.args.value c.if-value-ge10.true) in
+    let e = ap length (leading-large c.args.value (omega (arith, c.if-value-ge10.true))) in
     (omega arith, omega (arith, length-decimal c.args.value))
 
 pub bounds-text-last : goal.bounds-text-last

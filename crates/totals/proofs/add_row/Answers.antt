@@ -9,7 +9,8 @@ use Rattle.residue.proofs.Laws.{sub_cong, sub_complement}
 use Rattle.buffers.specs.Positions.{at}
 use Rattle.buffers.specs.PositionLaws.{front-behind}
 use Rattle.buffers.specs.Rows.{values-none, values-next, values-all}
-use Rattle.totals.specs.Totals.{signed_sum, signed_lt}
+use Rattle.totals.specs.Totals.{signed_sum}
+use Rattle.totals.proofs.Totals.{signed_lt}
 use Rattle.totals.proofs.add_row.Goals as goal
 use Rattle.totals.proofs.add_row.Goals.{After-sub, After-widen-share, In-loop-i, Joined-negative, else-negative, then-negative}
 
@@ -39,7 +40,12 @@ next c =
     let m = c.widen-modulus.ensures in
     let sign : Bool → ℕ = λ b. signed_sum a.q b (at a.work.now i) (at a.row.now i) in
     let le : at a.row.now i ≤ a.q = omega (arith, c.requires.2 i c.loop-i-test.true) in
-    elim c.if-negative.branch [ then-negative w ↦ c.sub.ensures ∙ sub_cong m ((c.widen-total.ensures ∙ ap (λ (l : List ℕ). at l c.loop-i.i) c.loop-i.invariant.1 ∙ front-behind _ _ _ _ (le_refl _))) (w.other-is ∙ c.widen-share.ensures) ∙ sym (ap sign w.if-negative.true) | else-negative w ↦ let e : c.if-negative.other ≡ a.q - at a.row.now i = omega (arith, w.other-is, c.widen-share.ensures) in c.sub.ensures ∙ sub_cong m ((c.widen-total.ensures ∙ ap (λ (l : List ℕ). at l c.loop-i.i) c.loop-i.invariant.1 ∙ front-behind _ _ _ _ (le_refl _))) e ∙ sub_complement a.q _ _ le ∙ sym (ap sign w.if-negative.false) ]
+    elim c.if-negative.branch [
+      | then-negative w ↦ c.sub.ensures ∙ sub_cong m ((c.widen-total.ensures ∙ ap (λ (l : List ℕ). at l c.loop-i.i) c.loop-i.invariant.1 ∙ front-behind _ _ _ _ (le_refl _))) (w.other-is ∙ c.widen-share.ensures) ∙ sym (ap sign w.if-negative.true)
+      | else-negative w ↦
+          let e : c.if-negative.other ≡ a.q - at a.row.now i = omega (arith, w.other-is, c.widen-share.ensures) in
+          c.sub.ensures ∙ sub_cong m ((c.widen-total.ensures ∙ ap (λ (l : List ℕ). at l c.loop-i.i) c.loop-i.invariant.1 ∙ front-behind _ _ _ _ (le_refl _))) e ∙ sub_complement a.q _ _ le ∙ sym (ap sign w.if-negative.false)
+    ]
 
 pub loop-i-init : goal.loop-i-init
 loop-i-init c = (omega arith, values-none _ _, refl)

@@ -9,8 +9,9 @@ use Rattle.buffers.specs.Blocks.{block-fits}
 use Rattle.checks.specs.Width.{bit_lt}
 use Rattle.conversion.specs.Conversion.{bits_at, bit_words, row}
 use Rattle.conversion.specs.Arrays.{drawn_part}
-use Rattle.conversion.specs.Rows.{row_lt, row_from}
-use Rattle.totals.specs.Totals.{totals_of, totals-none, totals-below, totals-next}
+use Rattle.conversion.proofs.Rows.{row_lt, row_from}
+use Rattle.totals.specs.Totals.{totals_of}
+use Rattle.totals.proofs.Totals.{totals-none, totals-below, totals-next}
 use Rattle.totals.proofs.add_string.Goals as goal
 use Rattle.totals.proofs.add_string.Goals.{After-bits_at-bits, After-convert_at-p, At-loop-bit}
 

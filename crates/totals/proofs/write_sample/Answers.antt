@@ -8,7 +8,7 @@ use Rattle.buffers.specs.Overwrite.{overwrite}
 use Rattle.buffers.specs.Positions.{at, after}
 use Rattle.conversion.specs.Conversion.{bit_words}
 use Rattle.conversion.specs.Arrays.{drawn_part}
-use Rattle.totals.specs.Totals.{totals-below, totals-shares, totals_cleared}
+use Rattle.totals.proofs.Totals.{totals-below, totals-shares, totals_cleared}
 use Rattle.totals.proofs.write_sample.Goals as goal
 
 pub add_string-half-requires : goal.add_string-half-requires

@@ -14,8 +14,8 @@ use Rattle.checks.proofs.Settles.{checks-hold, settles_accepted, settles_refused
 use Rattle.conversion.specs.Conversion.{value_words, string_checks, value_checks}
 use Rattle.conversion.specs.Accepted.{SharedString, shared_string, fit-first, fit_drawn, fit-room}
 use Rattle.values.specs.Values.{value_shares, converted_value}
-use Rattle.values.specs.Calls.{shares_made}
-use Rattle.values.specs.SecrecyProof.{value-secrecy}
+use Rattle.values.proofs.Calls.{shares_made}
+use Rattle.values.proofs.SecrecyProof.{value-secrecy}
 use Rattle.values.proofs.convert_value.Goals as goal
 use Rattle.values.proofs.convert_value.Goals.{After-write_value, In_default}
 

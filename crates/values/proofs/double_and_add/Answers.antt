@@ -37,8 +37,8 @@ add-twice-requires c =
 pub add-requires : goal.add-requires
 add-requires c =
     let m = c.widen-modulus.ensures in
-    let w = add_lt c.args.q (omega (arith, c.requires.1.large)) c.widen-total.result c.widen-total.result in
-    (omega (arith, w, c.add-twice.ensures ∙ add_cong m refl refl), omega (arith, c.widen.ensures, c.requires.2 _ c.if-i-n.true), omega (arith, c.requires.1.small))
+    let w : c.add-twice.result < c.args.q = rw (c.add-twice.ensures ∙ add_cong m refl refl) (add_lt c.args.q (omega (arith, c.requires.1.large)) _ _) in
+    (omega (arith, w), omega (arith, c.widen.ensures, c.requires.2 _ c.if-i-n.true), omega (arith, c.requires.1.small))
 
 pub narrow-requires : goal.narrow-requires
 narrow-requires c = let m = c.widen-modulus.ensures in rw (c.add.ensures ∙ add_cong m refl refl) (add_lt c.args.q (omega (arith, c.requires.1.large)) _ _)

@@ -10,7 +10,7 @@ use Rattle.buffers.specs.Blocks.{block-fits}
 use Rattle.checks.specs.Width.{bit_lt}
 use Rattle.conversion.specs.Conversion.{bits_at, bit_words, row}
 use Rattle.conversion.specs.Arrays.{drawn_part}
-use Rattle.conversion.specs.Rows.{row_lt, row_from}
+use Rattle.conversion.proofs.Rows.{row_lt, row_from}
 use Rattle.values.proofs.Steps.{block-before, upper_start, upper-end, upper-below, upper_turn}
 use Rattle.values.proofs.write_value.Goals as goal
 use Rattle.values.proofs.write_value.Goals.{After-bits_at-bits, After-convert_at, After-zero, At-loop-t, In-loop-t}

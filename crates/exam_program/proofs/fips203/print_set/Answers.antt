@@ -1,7 +1,7 @@
 -- Every published set has a k from 1 to 16.
 use Rattle.std.proofs.Common.{◌≡◌, ◌≤◌, ℕ, sym}
 use Rattle.binomial.specs.Sets.{parameter_set}
-use Rattle.binomial.specs.SetsFit.{sets-fit}
+use Rattle.binomial.proofs.SetsFit.{sets-fit}
 use Rattle.binomial.specs.declared.ParameterSet.{ParameterSet}
 use Rattle.checks.specs.Checks.{accepted}
 use Rattle.checks.specs.Laws.{within_true}

@@ -1,0 +1,3 @@
+pub mod Centring
+pub mod Half
+pub mod SetsFit
