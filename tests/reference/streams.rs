@@ -5,7 +5,6 @@ use crate::ends::{Input, Sink};
 use crate::show::{difference, excerpt};
 use crate::text::Text;
 use std::io::{Error, Read};
-use std::os::unix::process::ExitStatusExt;
 use std::process::{Child, Command, Output, Stdio};
 use std::thread;
 use std::time::{Duration, Instant};
@@ -21,16 +20,15 @@ const BAD_DESCRIPTOR: i32 = 9;
 const WOULD_BLOCK: i32 = 11;
 const IS_DIRECTORY: i32 = 21;
 const NO_SPACE: i32 = 28;
+const BROKEN_PIPE: i32 = 32;
 const CONNECTION_RESET: i32 = 104;
-const PIPE_SIGNAL: i32 = 13;
 
-/// What comes of a run, with the system's number for what goes wrong, or for the signal that ends the program.
+/// What comes of a run, with the system's number for what goes wrong.
 #[derive(Clone, Copy)]
 enum Outcome {
     Orderly,
     ReadFails(i32),
     WriteFails(i32),
-    Ended(i32),
 }
 
 /// A run of the program on the example repeated to so many bytes.
@@ -86,7 +84,7 @@ const CASES: [Case; 31] = [
     into(Sink::Full, "/dev/full for a sample", Input::File, 30, Outcome::WriteFails(NO_SPACE)),
     into(Sink::Closed, "standard output closed", Input::File, 30, Outcome::WriteFails(BAD_DESCRIPTOR)),
     into(Sink::Stuffed, "a pipe without room", Input::File, 30, Outcome::WriteFails(WOULD_BLOCK)),
-    into(Sink::Abandoned, "a socket that nobody reads", Input::File, 30, Outcome::Ended(PIPE_SIGNAL)),
+    into(Sink::Abandoned, "a socket that nobody reads", Input::File, 30, Outcome::WriteFails(BROKEN_PIPE)),
 ];
 
 /// The lesson program writes its header after a failed read too, and its text may be long.
@@ -158,14 +156,14 @@ impl Case {
             Outcome::Orderly => whole,
             Outcome::ReadFails(_) if text == Text::Lesson => text.of(&read(&[])),
             Outcome::WriteFails(_) if self.sink == Sink::Crowded => whole[..room.clamp(1, whole.len() - 1)].to_vec(),
-            Outcome::ReadFails(_) | Outcome::WriteFails(_) | Outcome::Ended(_) => Vec::new(),
+            Outcome::ReadFails(_) | Outcome::WriteFails(_) => Vec::new(),
         }
     }
 
     /// One line with the program's name and the system's words for what fails, or nothing.
     fn said(&self, text: Text) -> String {
         let (stream, error) = match self.outcome {
-            Outcome::Orderly | Outcome::Ended(_) => return String::new(),
+            Outcome::Orderly => return String::new(),
             Outcome::ReadFails(error) => ("input", error),
             Outcome::WriteFails(error) => ("output", error),
         };
@@ -180,11 +178,7 @@ impl Case {
         let file = self.file();
         let output = self.run(program, &file);
         let mut fault = difference(&output.stdout, &self.printed(text, &file, output.stdout.len())).unwrap_or_default();
-        let ended = match self.outcome {
-            Outcome::Ended(signal) => output.status.signal() == Some(signal),
-            _ => output.status.code() == Some(0),
-        };
-        if !ended {
+        if output.status.code() != Some(0) {
             fault += &format!("  {}\n", output.status);
         }
         let said = self.said(text);
@@ -204,7 +198,7 @@ pub fn is_right(text: Text, program: &str) -> bool {
         *match case.outcome {
             Outcome::Orderly => &mut orderly,
             Outcome::ReadFails(_) => &mut reads,
-            Outcome::WriteFails(_) | Outcome::Ended(_) => &mut writes,
+            Outcome::WriteFails(_) => &mut writes,
         } += 1;
         if let Some(fault) = case.fault(text, program) {
             wrong += 1;
