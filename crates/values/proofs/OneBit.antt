@@ -1,4 +1,4 @@
--- A string of one bit: the call's outcome is that of the one_bit call with start 0, for every input.
+-- A string of one bit: the call's outcome is that of the one-bit call with start 0, for every input.
 use Rattle.std.specs.Prelude.{◌≡◌, ℕ, ◌+◌, length, drop}
 use Rattle.std.proofs.Math.Path.{ap}
 use Rattle.std.proofs.Common.{◌∙◌}
