@@ -1,6 +1,5 @@
 pub mod Signed
 pub mod Sets
-pub mod Answers
 pub mod Weight
 pub mod Fips204
 pub mod Half

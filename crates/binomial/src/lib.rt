@@ -4,44 +4,32 @@
 
 ghost use Rattle.std.specs.Prelude.{◌≡◌, ◌<◌};
 ghost use Rattle.checks.specs.Checks.{checked};
-ghost use Rattle.checks.specs.Answers.{checked_reading};
+ghost use Rattle.checks.specs.Answers.{reading};
 ghost use Rattle.binomial.specs.Signed.{centred_value, centre_checks, centred, weight, weight_checks, weight_difference};
 ghost use Rattle.binomial.specs.Sets.{parameter_set};
-ghost use Rattle.binomial.specs.Answers.{signed_reading, set_reading};
 
-use checks::{Checked, Refusal};
+use checks::{Reason, Refusal};
 use masking::{OpenedResidue, OpenedString};
 use residue::Word;
 
 // A string length k and a modulus q.
-#[derive(Clone, Copy)]
+#[derive(Clone, Copy, PartialEq, Eq)]
 pub struct ParameterSet {
     pub k: usize,
     pub q: Word,
 }
 
-#[derive(Drop)]
-pub enum SignedAnswer {
-    Value(i32),
-    Refused(Refusal),
-}
-
-#[derive(Drop)]
-pub enum SetAnswer {
-    Set(ParameterSet),
-    Refused(Refusal),
-}
-
-fn check_centre(q: Word, r: Word) -> Checked
-    ensures { checked_reading result ≡ checked (centre_checks q r) }
+#[tactic(auto, unfolding(checks::specs::Checks::verdict))]
+fn check_centre(q: Word, r: Word) -> Result<(), Refusal>
+    ensures { reading result ≡ checked (centre_checks q r) }
 {
     if q < 3 {
-        return checks::refuse(checks::MODULUS, 0);
+        return checks::refuse(Reason::Modulus, 0);
     }
     if r >= q {
-        return checks::refuse(checks::RESIDUE_RANGE, 0);
+        return checks::refuse(Reason::ResidueRange, 0);
     }
-    Checked::Passed
+    Ok(())
 }
 
 fn centred_value(q: Word, r: Word) -> i32
@@ -57,29 +45,27 @@ fn centred_value(q: Word, r: Word) -> i32
 
 // The centred value of a residue: r where 2r is at most q, else r - q.
 // Refuses 3 (q below 3), 17.
-pub fn centre(q: Word, opened: OpenedResidue) -> SignedAnswer
-    ensures { signed_reading result ≡ centred q opened.0 }
+pub fn centre(q: Word, opened: OpenedResidue) -> Result<i32, Refusal>
+    ensures { reading result ≡ centred q opened.0 }
 {
-    let r = opened.0;
-    if let Checked::Failed(f) = check_centre(q, r) {
-        return SignedAnswer::Refused(f);
-    }
-    SignedAnswer::Value(centred_value(q, r))
+    check_centre(q, opened.0)?;
+    Ok(centred_value(q, opened.0))
 }
 
-fn check_weights(k: usize, x: u16, y: u16) -> Checked
-    ensures { checked_reading result ≡ checked (weight_checks k x y) }
+#[tactic(auto, unfolding(checks::specs::Checks::verdict))]
+fn check_weights(k: usize, x: u16, y: u16) -> Result<(), Refusal>
+    ensures { reading result ≡ checked (weight_checks k x y) }
 {
     if !checks::within(1, 16, k) {
-        return checks::refuse(checks::STRING_LENGTH, 0);
+        return checks::refuse(Reason::StringLength, 0);
     }
     if !checks::is_narrow(x, k) {
-        return checks::refuse(checks::VALUE_WIDTH, 0);
+        return checks::refuse(Reason::ValueWidth, 0);
     }
     if !checks::is_narrow(y, k) {
-        return checks::refuse(checks::VALUE_WIDTH, 1);
+        return checks::refuse(Reason::ValueWidth, 1);
     }
-    Checked::Passed
+    Ok(())
 }
 
 fn weight(x: u16) -> u16
@@ -90,17 +76,13 @@ fn weight(x: u16) -> u16
 
 // The weight of x less the weight of y.
 // Refuses 2, 12 with position 0 for x and 1 for y.
-pub fn weight_difference(k: usize, x: OpenedString, y: OpenedString) -> SignedAnswer
-    ensures { signed_reading result ≡ weight_difference k x.0 y.0 }
+pub fn weight_difference(k: usize, x: OpenedString, y: OpenedString) -> Result<i32, Refusal>
+    ensures { reading result ≡ weight_difference k x.0 y.0 }
 {
-    let a = x.0;
-    let b = y.0;
-    if let Checked::Failed(f) = check_weights(k, a, b) {
-        return SignedAnswer::Refused(f);
-    }
-    let wx = residue::from_u16(weight(a));
-    let wy = residue::from_u16(weight(b));
-    SignedAnswer::Value(residue::difference(wx, wy))
+    check_weights(k, x.0, y.0)?;
+    let wx = residue::from_u16(weight(x.0));
+    let wy = residue::from_u16(weight(y.0));
+    Ok(residue::difference(wx, wy))
 }
 
 // ML-KEM (FIPS 203) twice, NewHope twice, the Saber family three times.
@@ -116,14 +98,11 @@ const SETS: [ParameterSet; 7] = [
 
 // The published parameter set of a number from 1 to 7.
 // Refuses 22.
-pub fn parameter_set(number: usize) -> SetAnswer
-    ensures { set_reading result ≡ parameter_set number }
+pub fn parameter_set(number: usize) -> Result<ParameterSet, Refusal>
+    ensures { reading result ≡ parameter_set number }
 {
-    if !checks::within(1, 7, number) {
-        return SetAnswer::Refused(Refusal {
-            code: checks::SET_NUMBER,
-            position: 0,
-        });
+    if !checks::within(1, SETS.len(), number) {
+        return checks::refuse(Reason::SetNumber, 0);
     }
-    SetAnswer::Set(SETS[number - 1])
+    Ok(SETS[number - 1])
 }

@@ -13,6 +13,11 @@ use Rattle.std.proofs.Math.Seq.{length-take-le, take-length, drop-append-add, dr
 use Rattle.std.proofs.lemmas.List.Edits.{length-paste}
 use Rattle.buffers.specs.Overwrite.{overwrite}
 
+-- the library's word for it
+pub overwrite_pastes : {A : Type 0} (l : List A) (start : ℕ) (s : List A) → overwrite l start s ≡ paste l start s (length s)
+unfolding overwrite
+overwrite_pastes {A} l start s = ap (λ (r : List A). take start l ++ r ++ drop (start + length s) l) (sym (take-length s))
+
 -- ---- one element at a time: s is written as far as its first i elements
 
 unfoldable pub written : List ℕ → ℕ → List ℕ → ℕ → List ℕ
@@ -32,8 +37,8 @@ module _ (l : List ℕ) (start : ℕ) (s : List ℕ) where
   written_next t i v w e h m = rw (w, ← e, add-one i) (paste-suc l start s i 0 h m)
 
   pub written_all : (i : ℕ) → i ≡ length s → written l start s i ≡ overwrite l start s
-  unfolding written overwrite
-  written_all i e = rw (e, take-length)
+  unfolding written
+  written_all i e = rw e (sym (overwrite_pastes l start s))
 
   -- ---- the whole
 

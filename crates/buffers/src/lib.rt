@@ -7,13 +7,11 @@ ghost use Rattle.buffers.specs.Overwrite.{overwrite};
 use residue::Word;
 
 // The elements of `from`, at `start` and behind.
-pub fn copy(to: &mut [u16], start: usize, from: &[u16])
+pub fn copy<T: Copy>(to: &mut [T], start: usize, from: &[T])
     requires { start + length from.now ≤ length to.old }
     ensures { to.new ≡ overwrite to.old start from.now }
 {
-    for i in 0..from.len() {
-        to[start + i] = from[i];
-    }
+    to[start..start + from.len()].copy_from_slice(from);
 }
 
 // The first eight elements of `from`, or all where there are fewer, in front. Eight turns, so that they are single stores and no call.

@@ -2,11 +2,11 @@
 use Rattle.std.specs.Prelude.{ℕ, ℤ, pos}
 use Rattle.checks.specs.Checks.{Verdict, accepted, refused, Outcome}
 use Rattle.binomial.specs.declared.ParameterSet.{ParameterSet}
-use Rattle.capi.specs.declared.TpAnswer.{TpAnswer}
-use Rattle.capi.specs.declared.TpOpenedString.{TpOpenedString}
-use Rattle.capi.specs.declared.TpOpenedResidue.{TpOpenedResidue}
-use Rattle.capi.specs.declared.TpSigned.{TpSigned}
-use Rattle.capi.specs.declared.TpParameters.{TpParameters}
+use Rattle.capi.specs.declared.answers.TpAnswer.{TpAnswer}
+use Rattle.capi.specs.declared.answers.TpOpenedString.{TpOpenedString}
+use Rattle.capi.specs.declared.answers.TpOpenedResidue.{TpOpenedResidue}
+use Rattle.capi.specs.declared.answers.TpSigned.{TpSigned}
+use Rattle.capi.specs.declared.answers.TpParameters.{TpParameters}
 
 abbrev pub answer_of : Verdict ℕ → TpAnswer
 answer_of (accepted count) = record { code = 0; value = count }

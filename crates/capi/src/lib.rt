@@ -1,10 +1,10 @@
 // The calls for C, as include/tinplateau.h declares them. A slice is a pointer and a length there.
 #![tactic(auto)]
 
+mod answers;
+
 ghost use Rattle.std.specs.Prelude.{◌≡◌};
-ghost use Rattle.checks.specs.Answers.{answer_reading};
 ghost use Rattle.masking.specs.Sharing.{masked, opened_string, opened_residue};
-ghost use Rattle.binomial.specs.Answers.{signed_reading};
 ghost use Rattle.binomial.specs.Signed.{centred, weight_difference};
 ghost use Rattle.binomial.specs.Sets.{parameter_set};
 ghost use Rattle.conversion.specs.Conversion.{converted};
@@ -20,93 +20,11 @@ ghost use Rattle.noise.specs.Split.{targets, noise_split};
 ghost use Rattle.capi.specs.Structs.{answer_of, string_of, residue_of, signed_of, parameters_of, returned, answered};
 ghost use Rattle.capi.specs.FileText.{words_and_text, lesson_text_written, report_text_written};
 
-use binomial::{SetAnswer, SignedAnswer};
-use checks::Answer;
-use masking::{OpenedResidue, OpenedString, ResidueAnswer, StringAnswer};
+pub use answers::{
+    TpAnswer, TpOpenedResidue, TpOpenedString, TpParameters, TpResidue, TpSigned, TpString,
+};
+use masking::{OpenedResidue, OpenedString};
 use residue::Word;
-
-#[repr(C)]
-#[derive(Drop)]
-pub struct TpAnswer {
-    pub code: u32,
-    pub value: usize,
-}
-
-#[repr(C)]
-#[derive(Drop)]
-pub struct TpString {
-    pub bits: u16,
-}
-
-#[repr(C)]
-#[derive(Drop)]
-pub struct TpResidue {
-    pub value: Word,
-}
-
-#[repr(C)]
-#[derive(Drop)]
-pub struct TpOpenedString {
-    pub code: u32,
-    pub position: usize,
-    pub opened: TpString,
-}
-
-#[repr(C)]
-#[derive(Drop)]
-pub struct TpOpenedResidue {
-    pub code: u32,
-    pub position: usize,
-    pub opened: TpResidue,
-}
-
-#[repr(C)]
-#[derive(Drop)]
-pub struct TpSigned {
-    pub code: u32,
-    pub position: usize,
-    pub value: i32,
-}
-
-#[repr(C)]
-#[derive(Drop)]
-pub struct TpParameters {
-    pub code: u32,
-    pub k: usize,
-    pub q: Word,
-}
-
-fn answer(a: Answer) -> TpAnswer
-    ensures { result ≡ answer_of (answer_reading a) }
-{
-    match a {
-        Answer::Done(count) => TpAnswer {
-            code: 0,
-            value: count,
-        },
-        Answer::Refused(r) => TpAnswer {
-            code: r.code,
-            value: r.position,
-        },
-    }
-}
-
-fn signed(a: SignedAnswer) -> TpSigned
-    ensures { result ≡ signed_of (signed_reading a) }
-{
-    match a {
-        SignedAnswer::Value(z) => TpSigned {
-            code: 0,
-            position: 0,
-            value: z,
-        },
-        SignedAnswer::Refused(r) => TpSigned {
-            code: r.code,
-            position: r.position,
-            value: 0,
-        },
-    }
-}
 
 #[unsafe(no_mangle)]
 pub extern "C" fn tp_mask(
@@ -118,75 +36,42 @@ pub extern "C" fn tp_mask(
 ) -> TpAnswer
     ensures { returned result out.new ≡ answered (masked n k value.bits masks.now out.old) }
 {
-    answer(masking::mask(n, k, OpenedString(value.bits), masks, out))
+    masking::mask(n, k, OpenedString(value.bits), masks, out).into()
 }
 
 #[unsafe(no_mangle)]
 pub extern "C" fn tp_open_string(n: usize, k: usize, shares: &[u16]) -> TpOpenedString
     ensures { result ≡ string_of (opened_string n k shares.now) }
 {
-    match masking::open_string(n, k, shares) {
-        StringAnswer::Opened(s) => TpOpenedString {
-            code: 0,
-            position: 0,
-            opened: TpString { bits: s.0 },
-        },
-        StringAnswer::Refused(r) => TpOpenedString {
-            code: r.code,
-            position: r.position,
-            opened: TpString { bits: 0 },
-        },
-    }
+    masking::open_string(n, k, shares).into()
 }
 
 #[unsafe(no_mangle)]
 pub extern "C" fn tp_open_residue(n: usize, q: Word, shares: &[Word]) -> TpOpenedResidue
     ensures { result ≡ residue_of (opened_residue n q shares.now) }
 {
-    match masking::open_residue(n, q, shares) {
-        ResidueAnswer::Opened(s) => TpOpenedResidue {
-            code: 0,
-            position: 0,
-            opened: TpResidue { value: s.0 },
-        },
-        ResidueAnswer::Refused(r) => TpOpenedResidue {
-            code: r.code,
-            position: r.position,
-            opened: TpResidue { value: 0 },
-        },
-    }
+    masking::open_residue(n, q, shares).into()
 }
 
 #[unsafe(no_mangle)]
 pub extern "C" fn tp_centred(q: Word, r: TpResidue) -> TpSigned
     ensures { result ≡ signed_of (centred q r.value) }
 {
-    signed(binomial::centre(q, OpenedResidue(r.value)))
+    binomial::centre(q, OpenedResidue(r.value)).into()
 }
 
 #[unsafe(no_mangle)]
 pub extern "C" fn tp_weight_difference(k: usize, x: TpString, y: TpString) -> TpSigned
     ensures { result ≡ signed_of (weight_difference k x.bits y.bits) }
 {
-    signed(binomial::weight_difference(k, OpenedString(x.bits), OpenedString(y.bits)))
+    binomial::weight_difference(k, OpenedString(x.bits), OpenedString(y.bits)).into()
 }
 
 #[unsafe(no_mangle)]
 pub extern "C" fn tp_parameter_set(number: usize) -> TpParameters
     ensures { result ≡ parameters_of (parameter_set number) }
 {
-    match binomial::parameter_set(number) {
-        SetAnswer::Set(s) => TpParameters {
-            code: 0,
-            k: s.k,
-            q: s.q,
-        },
-        SetAnswer::Refused(r) => TpParameters {
-            code: r.code,
-            k: 0,
-            q: 0,
-        },
-    }
+    binomial::parameter_set(number).into()
 }
 
 #[unsafe(no_mangle)]
@@ -201,7 +86,7 @@ pub extern "C" fn tp_convert_bit(
     ensures out_after { returned result out.new ≡ answered (converted n q bits.now words.now start out.old) }
     ensures secrecy { BitSecrecy n q }
 {
-    answer(conversion::convert_bit(n, q, bits, words, start, out))
+    conversion::convert_bit(n, q, bits, words, start, out).into()
 }
 
 #[unsafe(no_mangle)]
@@ -216,7 +101,7 @@ pub extern "C" fn tp_convert_value(
     ensures out_after { returned result out.new ≡ answered (converted_value n k q shares.now words.now out.old) }
     ensures secrecy { ValueSecrecy n k q }
 {
-    answer(values::convert_value(n, k, q, shares, words, out))
+    values::convert_value(n, k, q, shares, words, out).into()
 }
 
 // `&words[..]`: docs/DECISIONS.md, 'A slice is handed on by its parts'.
@@ -235,7 +120,7 @@ pub extern "C" fn tp_sample(
     ensures work_after { returned result (both out.new work.new) ≡ answered (sampled n k q x.now y.now words.now start out.old work.old) }
     ensures secrecy { Secrecy n k q }
 {
-    answer(sampler::sample(n, k, q, x, y, &words[..], start, out, work))
+    sampler::sample(n, k, q, x, y, &words[..], start, out, work).into()
 }
 
 #[unsafe(no_mangle)]
@@ -252,7 +137,7 @@ pub extern "C" fn tp_sample_steps(
 ) -> TpAnswer
     ensures { returned result (lists (both out.new work.new) records.new) ≡ answered (steps_sampled n k q x.now y.now words.now out.old work.old records.old) }
 {
-    answer(sample_steps::sample_steps(n, k, q, x, y, words, out, work, records))
+    sample_steps::sample_steps(n, k, q, x, y, words, out, work, records).into()
 }
 
 #[unsafe(no_mangle)]
@@ -270,7 +155,7 @@ pub extern "C" fn tp_sample_polynomial(
     ensures work_after { returned result (both out.new work.new) ≡ answered (sampled_polynomial n k q m x.now y.now words.now out.old work.old) }
     ensures secrecy { PolynomialSecrecy n k q m }
 {
-    answer(polynomial::sample_polynomial(n, k, q, m, x, y, words, out, work))
+    polynomial::sample_polynomial(n, k, q, m, x, y, words, out, work).into()
 }
 
 #[unsafe(no_mangle)]
@@ -283,7 +168,7 @@ pub extern "C" fn tp_split_noise(
 ) -> TpAnswer
     ensures { returned result (targets x.new y.new) ≡ answered (noise_split n set bytes.now x.old y.old) }
 {
-    answer(noise::split_noise(n, set, bytes, x, y))
+    noise::split_noise(n, set, bytes, x, y).into()
 }
 
 // The output and the work area of the samples are the call's own, here and in the next.
@@ -293,7 +178,7 @@ pub extern "C" fn tp_lesson_text(file: &[u8], words: &mut [Word], text: &mut [u8
 {
     let mut out: [Word; 8] = [0; 8];
     let mut work: [Word; 8] = [0; 8];
-    answer(lesson::write_text(file, words, &mut out, &mut work, text))
+    lesson::write_text(file, words, &mut out, &mut work, text).into()
 }
 
 #[unsafe(no_mangle)]
@@ -302,5 +187,5 @@ pub extern "C" fn tp_report_text(file: &[u8], words: &mut [Word], text: &mut [u8
 {
     let mut out: [Word; 8] = [0; 8];
     let mut work: [Word; 8] = [0; 8];
-    answer(report::write_text(file, words, &mut out, &mut work, text))
+    report::write_text(file, words, &mut out, &mut work, text).into()
 }

@@ -2,7 +2,7 @@
 -- the start.
 use mathlib.Core.Path.{◌≡◌, sym, ap, ◌∙◌}
 use mathlib.Core.List.{List}
-use mathlib.Core.Option.{none, some}
+use Rattle.std.specs.Prelude.{None, Some}
 use Prim.Native.Nat.{ℕ, ◌+◌, ◌*◌, ◌<◌, ◌≤◌}
 use native.Mathlib.Nat as N
 use native.Mathlib.Omega.{arith}
@@ -35,11 +35,11 @@ module _ (q start bits per : ℕ) (words : List ℕ) (room : start + bits * per 
     pub passes : get_or words p 0 < q → Searched q start judged (b * per + i) p → Searched q start judged (b * per + i + 1) (p + 1)
     passes s = search_passes q start judged (b * per + i) p here (rw judged-at s)
 
-    pub finds : q ≤ get_or words p 0 → Searched q start judged (b * per + i) p → first_from q start judged ≡ some p
+    pub finds : q ≤ get_or words p 0 → Searched q start judged (b * per + i) p → first_from q start judged ≡ Some p
     finds s = search_finds q start judged (b * per + i) p here (rw judged-at s)
 
   pub row_ends : (b i : ℕ) → i ≤ per → per ≤ i → b * per + i ≡ (b + 1) * per
   row_ends b i h g = omega (arith, N.add-mul b 1 per)
 
-  pub ends : (b p : ℕ) → b ≤ bits → bits ≤ b → Searched q start judged (b * per) p → first_from q start judged ≡ none
+  pub ends : (b p : ℕ) → b ≤ bits → bits ≤ b → Searched q start judged (b * per) p → first_from q start judged ≡ None
   ends b p h g = search_ends q start judged (b * per) p (omega (arith, count, ap (λ (m : ℕ). m * per) (N.le_antisymm h g)))

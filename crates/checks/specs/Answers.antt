@@ -1,31 +1,47 @@
 -- What document 01 says for each case of the answers in the code: the number and the position of a refusal, and the value of an accepted call.
-use Rattle.std.proofs.Math.Option.{Option, none, some}
-use Rattle.std.specs.Prelude.{ℕ}
+use Rattle.std.specs.Prelude.{ℕ, Result, Ok, Err}
 use Rattle.checks.specs.Checks.{Verdict, accepted, refused, Outcome}
+use Rattle.checks.specs.declared.Reason.{Reason}
 use Rattle.checks.specs.declared.Refusal.{Refusal}
-use Rattle.checks.specs.declared.Answer.{Answer}
-use Rattle.checks.specs.declared.Answer.TheVariants.{Done, Refused}
-use Rattle.checks.specs.declared.Checked.{Checked}
-use Rattle.checks.specs.declared.Checked.TheVariants.{Passed, Failed}
-use Rattle.checks.specs.declared.Found.{Found}
-use Rattle.checks.specs.declared.Found.TheVariants.{At, Nothing}
 
-abbrev pub refusal_reading : {A : Type 0} → Refusal → Verdict A
-refusal_reading r = refused r.code r.position
+-- the page's number
+abbrev pub code : Reason → ℕ
+code Reason.ShareCount = 1
+code Reason.StringLength = 2
+code Reason.Modulus = 3
+code Reason.XCount = 4
+code Reason.YCount = 5
+code Reason.XWidth = 6
+code Reason.YWidth = 7
+code Reason.WordCount = 8
+code Reason.WordRange = 9
+code Reason.OutputRoom = 10
+code Reason.WorkRoom = 11
+code Reason.ValueWidth = 12
+code Reason.MaskCount = 13
+code Reason.MaskWidth = 14
+code Reason.ArithmeticCount = 15
+code Reason.ArithmeticRange = 16
+code Reason.ResidueRange = 17
+code Reason.Mark = 18
+code Reason.CutShort = 19
+code Reason.WordLimit = 20
+code Reason.FileLength = 21
+code Reason.SetNumber = 22
+code Reason.CoefficientCount = 23
+code Reason.NoiseSet = 24
+code Reason.NoiseLength = 25
+code Reason.RecordRoom = 26
 
-abbrev pub answer_reading : Answer → Verdict ℕ
-answer_reading (Done count) = accepted count
-answer_reading (Refused r) = refusal_reading r
+-- of a call whose value is read by `view`
+abbrev pub reading_by : {A B : Type 0} → (A → B) → Result A Refusal → Verdict B
+reading_by view (Ok a) = accepted (view a)
+reading_by view (Err r) = refused (code r.reason) r.position
+
+-- of any other call, or of the checks of one, which have no value
+abbrev pub reading : {A : Type 0} → Result A Refusal → Verdict A
+reading r = reading_by (λ a. a) r
 
 -- of a call with buffers: its answer, and what they hold after it
-abbrev pub outcome : {B : Type 0} → Answer → B → Outcome ℕ B
-outcome a after = record { answer = answer_reading a; buffers = after }
-
-abbrev pub checked_reading : Checked → Verdict Unit
-checked_reading Passed = accepted tt
-checked_reading (Failed r) = refusal_reading r
-
--- the position that a search found
-abbrev pub found_reading : Found → Option ℕ
-found_reading (At i) = some i
-found_reading Nothing = none
+abbrev pub outcome : {A B : Type 0} → Result A Refusal → B → Outcome A B
+outcome a after = record { answer = reading a; buffers = after }

@@ -1,6 +1,5 @@
 -- The checks (document 01: 'Questions put to a call'), and the verdict of a list of them. A call's checks are a list in the order of the page.
-use Rattle.std.specs.Prelude.{Bool, true, false, cond, ◌&&◌, List, [], ◌∷◌, ◌++◌, ℕ, ◌+◌, ◌*◌, ◌^◌, leb, ltb, eqb, length, take, drop}
-use Rattle.std.proofs.Math.Option.{Option, none, some}
+use Rattle.std.specs.Prelude.{Bool, cond, ◌&&◌, List, [], ◌∷◌, ◌++◌, ℕ, ◌+◌, ◌*◌, ◌^◌, leb, ltb, eqb, length, take, drop, is_none, unwrap_or}
 use Rattle.checks.specs.Search.{first_from}
 
 -- A check: whether it holds, and the number and the position (the page's 'place') of the refusal where it does not.
@@ -59,17 +58,9 @@ exactly code n l = record { holds = eqb (length l) n; code = code; position = 0 
 abbrev pub at_least : ℕ → ℕ → ℕ → Check
 at_least code n room = record { holds = leb n room; code = code; position = 0 }
 
-abbrev pub is_none : Option ℕ → Bool
-is_none none = true
-is_none (some i) = false
-
-abbrev pub or_zero : Option ℕ → ℕ
-or_zero none = 0
-or_zero (some i) = i
-
 -- every word of the list, which begins at position `start`, is below the limit; the position is that of the first that is not
 abbrev pub all_below_from : ℕ → ℕ → ℕ → List ℕ → Check
-all_below_from code limit start l = record { holds = is_none (first_from limit start l); code = code; position = or_zero (first_from limit start l) }
+all_below_from code limit start l = record { holds = is_none (first_from limit start l); code = code; position = unwrap_or (first_from limit start l) 0 }
 
 abbrev pub all_below : ℕ → ℕ → List ℕ → Check
 all_below code limit l = all_below_from code limit 0 l

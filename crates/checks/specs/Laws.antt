@@ -1,11 +1,11 @@
 -- Laws of searches, and of going through a list of checks.
-use Rattle.std.specs.Prelude.{◌≡◌, Bool, cond, not, ◌&&◌, leb, length, get_or, take, drop}
+use Rattle.std.specs.Prelude.{◌≡◌, Option, Some, None, is_none, unwrap_or, option_map, position, nat_lt, not, Bool, cond, ◌&&◌, leb, length, get_or, take, drop}
+use Rattle.std.specs.List.{position_or_len}
 use Rattle.std.proofs.Math.Path.{refl, ap}
 use Rattle.std.proofs.Common.{sym, ap₂, ◌∙◌, le_of_suc-le-suc, arith, length-take, length-drop, drop_of_length-le, drop-cons}
 use Rattle.std.proofs.Math.Bool.{true, false}
 use Rattle.std.proofs.lemmas.Bool.{false≢true}
 use mathlib.Core.List.{List, [], ◌∷◌, ◌++◌, append-nil}
-use Rattle.std.proofs.Math.Option.{Option, none, some}
 use Prim.Native.Nat.{ℕ, zero, suc, suc-le-suc, ◌+◌, ◌≤◌, ◌<◌}
 use Rattle.std.proofs.Math.Numerals.{add-one}
 use Rattle.std.proofs.Math.Decide.{dec_le}
@@ -13,10 +13,7 @@ use borrow.Author.Tests.{leb-true, le-leb, lt-leb, ltb-true, lt-ltb, le-ltb, not
 use Rattle.std.proofs.Math.Dec.{ltb}
 use Rattle.residue.specs.Residue.{EachBelow}
 use Rattle.checks.specs.Search.{first_from}
-use Rattle.checks.specs.Checks.{Check, Verdict, accepted, refused, verdict, checked, settled, within, is_none, or_zero, all_below_from, word_checks}
-use Rattle.checks.specs.Answers.{found_reading}
-use Rattle.checks.specs.declared.Found.{Found}
-use Rattle.checks.specs.declared.Found.TheVariants.{At, Nothing}
+use Rattle.checks.specs.Checks.{Check, Verdict, accepted, refused, verdict, checked, settled, within, all_below_from, word_checks}
 
 -- ---- a search that goes from element to element
 
@@ -33,11 +30,11 @@ module _ (limit start : ℕ) (l : List ℕ) where
   unfolding Searched first_from
   search_passes i p h s e = e ∙ ap (first_from limit p) (drop-cons l i 0 h) ∙ rw (lt-ltb (get_or l i 0) limit s, add-one i, add-one p)
 
-  pub search_finds : (i p : ℕ) → i < length l → limit ≤ get_or l i 0 → Searched limit start l i p → first_from limit start l ≡ some p
+  pub search_finds : (i p : ℕ) → i < length l → limit ≤ get_or l i 0 → Searched limit start l i p → first_from limit start l ≡ Some p
   unfolding Searched first_from
   search_finds i p h s e = e ∙ ap (first_from limit p) (drop-cons l i 0 h) ∙ rw (le-ltb (get_or l i 0) limit s)
 
-  pub search_ends : (i p : ℕ) → length l ≤ i → Searched limit start l i p → first_from limit start l ≡ none
+  pub search_ends : (i p : ℕ) → length l ≤ i → Searched limit start l i p → first_from limit start l ≡ None
   unfolding Searched first_from
   search_ends i p h e = e ∙ ap (first_from limit p) (drop_of_length-le l h)
 
@@ -49,12 +46,12 @@ module _ (limit : ℕ) where
   none-each-below [] s e = λ i h. absurd (omega arith)
   none-each-below (x ∷ l) s e = go (none-each-below l (suc s)) (ltb x limit) refl e
     where
-      go : (is_none (first_from limit (suc s) l) ≡ true → EachBelow limit l) → (b : Bool) → ltb x limit ≡ b → is_none (cond b (first_from limit (suc s) l) (some s)) ≡ true → EachBelow limit (x ∷ l)
+      go : (is_none (first_from limit (suc s) l) ≡ true → EachBelow limit l) → (b : Bool) → ltb x limit ≡ b → is_none (cond b (first_from limit (suc s) l) (Some s)) ≡ true → EachBelow limit (x ∷ l)
       go ih true d f zero h = ltb-true x limit d
       go ih true d f (suc i) h = ih f i (le_of_suc-le-suc h)
       go ih false d f i h = absurd (false≢true f)
 
-  pub each-below-none : (l : List ℕ) (s : ℕ) → EachBelow limit l → first_from limit s l ≡ none
+  pub each-below-none : (l : List ℕ) (s : ℕ) → EachBelow limit l → first_from limit s l ≡ None
   unfolding first_from
   each-below-none [] s h = refl
   each-below-none (x ∷ l) s h = rw (lt-ltb x limit (h 0 (omega arith))) (each-below-none l (suc s) (λ i m. h (suc i) (suc-le-suc m)))
@@ -69,6 +66,34 @@ leb_same a b c d f g = go (dec_le a b)
     go (no h) =
         let l : c ≤ d → ⊥ = λ m. h (g m) in
         lt-leb a b (omega arith) ∙ sym (lt-leb c d (omega arith))
+
+module _ (limit : ℕ) where
+  -- the library's search for an element that fails the test
+  first_from_is : (i : ℕ) (l : List ℕ) → first_from limit i l ≡ option_map (λ p. p + i) (position (λ x. not (ltb x limit)) l)
+  unfolding first_from
+  first_from_is i [] = refl
+  first_from_is i (x ∷ l) = go (ltb x limit) refl (first_from_is (suc i) l)
+    where
+      passed : ℕ
+      passed = position_or_len (λ x. not (ltb x limit)) l
+
+      next : (b : Bool) → option_map (λ p. p + suc i) (cond b (Some passed) None) ≡ option_map (λ p. p + i) (cond b (Some (1 + passed)) None)
+      next true = let e : passed + suc i ≡ 1 + passed + i = omega arith in ap Some e
+      next false = refl
+
+      later : nat_lt (1 + passed) (suc (length l)) ≡ nat_lt passed (length l)
+      later = leb_same (suc (1 + passed)) (suc (length l)) (suc passed) (length l) (λ h. omega arith) (λ h. omega arith)
+
+      go : (b : Bool) → ltb x limit ≡ b → first_from limit (suc i) l ≡ option_map (λ p. p + suc i) (position (λ x. not (ltb x limit)) l) → cond b (first_from limit (suc i) l) (Some i) ≡ option_map (λ p. p + i) (position (λ x. not (ltb x limit)) (x ∷ l))
+      go true e ih = rw e (ih ∙ next (nat_lt passed (length l)) ∙ ap (λ (b : Bool). option_map (λ p. p + i) (cond b (Some (1 + passed)) None)) (sym later))
+      go false e ih = rw (e, lt-ltb 0 (suc (length l)) (omega arith)) (ap (λ (p : ℕ). Some p) (omega arith))
+
+  pub first_position : (l : List ℕ) → first_from limit 0 l ≡ position (λ x. not (ltb x limit)) l
+  first_position l = first_from_is 0 l ∙ from-front (position (λ x. not (ltb x limit)) l)
+    where
+      from-front : (o : Option ℕ) → option_map (λ p. p + 0) o ≡ o
+      from-front None = refl
+      from-front (Some p) = ap Some (omega arith)
 
 pub and_true : (s t : Bool) → s && t ≡ true → (s ≡ true) × (t ≡ true)
 and_true true t e = (refl, e)
@@ -99,11 +124,11 @@ module _ {A : Type 0} (a : A) where
   unfolding verdict
   fail c cs h = rw h
 
-  pub pass-none : (code limit start : ℕ) (l : List ℕ) (cs : List Check) → first_from limit start l ≡ none → verdict (all_below_from code limit start l ∷ cs) a ≡ verdict cs a
+  pub pass-none : (code limit start : ℕ) (l : List ℕ) (cs : List Check) → first_from limit start l ≡ None → verdict (all_below_from code limit start l ∷ cs) a ≡ verdict cs a
   pass-none code limit start l cs h = pass (all_below_from code limit start l) cs (ap is_none h)
 
-  pub fail-some : (code limit start : ℕ) (l : List ℕ) (cs : List Check) (i : ℕ) → first_from limit start l ≡ some i → verdict (all_below_from code limit start l ∷ cs) a ≡ refused code i
-  fail-some code limit start l cs i h = fail (all_below_from code limit start l) cs (ap is_none h) ∙ ap (refused code) (ap or_zero h)
+  pub fail-some : (code limit start : ℕ) (l : List ℕ) (cs : List Check) (i : ℕ) → first_from limit start l ≡ Some i → verdict (all_below_from code limit start l ∷ cs) a ≡ refused code i
+  fail-some code limit start l cs i h = fail (all_below_from code limit start l) cs (ap is_none h) ∙ ap (refused code) (ap (λ (o : Option ℕ). unwrap_or o 0) h)
 
   pub pass_all : verdict [] a ≡ accepted a
   unfolding verdict
@@ -121,11 +146,11 @@ test-holds {r} e n = sym e ∙ not-false r n
 pub test_fails : {r t : Bool} → r ≡ t → not r ≡ true → t ≡ false
 test_fails {r} e n = sym e ∙ not-true r n
 
-pub search_none : {f : Found} {o : Option ℕ} → found_reading f ≡ o → f ≡ Nothing → o ≡ none
-search_none e g = sym e ∙ ap found_reading g
+pub search_none : {f o : Option ℕ} → f ≡ o → f ≡ None → o ≡ None
+search_none e g = sym e ∙ g
 
-pub search_some : {f : Found} {o : Option ℕ} {i : ℕ} → found_reading f ≡ o → f ≡ At i → o ≡ some i
-search_some e g = sym e ∙ ap found_reading g
+pub search_some : {f o : Option ℕ} {i : ℕ} → f ≡ o → f ≡ Some i → o ≡ Some i
+search_some e g = sym e ∙ g
 
 -- ---- a whole list of checks
 

@@ -1,11 +1,11 @@
 -- What the functions below the call ask of their arguments, and what their arrays hold.
-use Rattle.std.specs.Prelude.{◌≡◌, List, ◌++◌, ℕ, ◌+◌, ◌^◌, ◌≤◌, ◌<◌, length, set, take, drop}
+use Rattle.std.specs.Prelude.{◌≡◌, List, ◌++◌, ℕ, ◌+◌, ◌^◌, ◌≤◌, ◌<◌, length, is_none, set, take, drop}
 use Rattle.std.proofs.Common.{ap, ◌∙◌, arith, leb-true, le-leb, length-set, length-append, length-take, length-drop, get_or-append-add, get_or-take, get_or-drop}
 use Rattle.std.proofs.Math.ListN.{get_or-append}
 use Rattle.residue.specs.Residue.{EachBelow}
 use Rattle.buffers.specs.Positions.{at, after, Same, Below}
 use Rattle.buffers.specs.PositionLaws.{set_agrees}
-use Rattle.checks.specs.Checks.{is_none, word_checks}
+use Rattle.checks.specs.Checks.{word_checks}
 use Rattle.checks.specs.Laws.{Hold, none-each-below, each-below-none}
 use Rattle.secrecy.specs.Secrecy.{Full, between}
 
@@ -36,7 +36,7 @@ drawn_part {start = start} s skipped n e h d =
 
 -- words that pass checks 8 and 9, and the reverse
 module _ (q start count : ℕ) (words : List ℕ) where
-  taken_at : (i : ℕ) → i < count → at (take count (drop start words)) i ≡ at words (start + i)
+  pub taken_at : (i : ℕ) → i < count → at (take count (drop start words)) i ≡ at words (start + i)
   taken_at i l = get_or-take count (drop start words) i 0 l ∙ get_or-drop start words i 0
 
   pub words_drawn : Hold (word_checks start count q words) → Drawn q start count words

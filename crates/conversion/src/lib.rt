@@ -7,12 +7,12 @@ ghost use Rattle.residue.specs.Residue.{sub};
 ghost use Rattle.buffers.specs.Overwrite.{overwrite};
 ghost use Rattle.buffers.specs.Positions.{at, table, after, Same, Below};
 ghost use Rattle.checks.specs.Checks.{checked};
-ghost use Rattle.checks.specs.Answers.{checked_reading, outcome};
+ghost use Rattle.checks.specs.Answers.{reading, outcome};
 ghost use Rattle.conversion.specs.Conversion.{pairs, less_twice, xor_share, bits_at, convert, refresh_share, refresh, convert_bit, bit_words, value_checks, converted};
 ghost use Rattle.conversion.specs.Secrecy.{BitSecrecy};
 ghost use Rattle.conversion.specs.Arrays.{Holds, Drawn, Modulus};
 
-use checks::{Answer, Checked, Found};
+use checks::{Reason, Refusal};
 use residue::{Wide, Word};
 
 // B - 2Bb modulo q for B = a - r and a bit b: a - r, or r - a where b is 1.
@@ -52,8 +52,8 @@ pub fn bits_at(shares: &[u16; 8], t: usize) -> [Word; 8]
     ensures { Holds 8 (bits_at (at shares.now) t) result }
 {
     let mut bits: [Word; 8] = [0; 8];
-    for i in 0..8 {
-        bits[i] = residue::from_u16((shares[i] >> t) & 1);
+    for (i, share) in shares.iter().enumerate() {
+        bits[i] = residue::from_u16((*share >> t) & 1);
     }
     bits
 }
@@ -62,16 +62,14 @@ pub fn bits_at(shares: &[u16; 8], t: usize) -> [Word; 8]
 pub fn one_share(bit: Word) -> [Word; 8]
     ensures { Holds 1 (λ i. bit) result }
 {
-    let mut one: [Word; 8] = [0; 8];
-    one[0] = bit;
-    one
+    [bit, 0, 0, 0, 0, 0, 0, 0]
 }
 
 // A list that steps 1 and 2 made, and the position after their last word.
-#[derive(Drop)]
-struct Unrefreshed {
-    list: [Word; 8],
-    next: usize,
+#[derive(Clone, Copy)]
+pub struct Unrefreshed {
+    pub list: [Word; 8],
+    pub next: usize,
 }
 
 // Steps 1 and 2: the list for the first j shares of a bit, with the j(j - 1)/2 words at `start`.
@@ -81,9 +79,8 @@ fn convert(bits: &[Word; 8], j: usize, q: Word, words: &[Word], start: usize) ->
     ensures { Holds j (convert q j (at bits.now) (after start (at words.now))) result.list × (result.next ≡ start + pairs j) }
 {
     if j == 1 {
-        let list = one_share(bits[0]);
         return Unrefreshed {
-            list: list,
+            list: one_share(bits[0]),
             next: start,
         };
     }
@@ -99,10 +96,9 @@ fn add_share(bits: &[Word; 8], j: usize, q: Word, words: &[Word], start: usize) 
 {
     let bit = bits[j];
     let first = convert(bits, j, q, &words[..], start);
-    let a = first.list;
-    let list = xor_share(a, j, bit, q, words, first.next);
+    let list = xor_share(first.list, j, bit, q, words, first.next);
     Unrefreshed {
-        list: list,
+        list,
         next: first.next + j,
     }
 }
@@ -120,16 +116,16 @@ fn refresh_share(
     ensures { (length list.new ≡ 8) × Same (n - i) (after i (at list.new)) (after i (refresh_share q i (i + 1) (n - (i + 1)) (after start (at words.now)) (at list.old))) × (result ≡ start + (n - (i + 1))) }
 {
     let modulus = residue::widen(q);
-    let mut p = start;
+    let end = start + (n - (i + 1));
     let mut own = residue::widen(list[i]);
-    for m in i + 1..n {
-        let r = residue::widen(words[p]);
+    for (t, word) in words[start..end].iter().enumerate() {
+        let m = i + 1 + t;
+        let r = residue::widen(*word);
         own = residue::add(own, r, modulus);
         list[m] = residue::narrow(residue::sub(residue::widen(list[m]), r, modulus), q);
-        p += 1;
     }
     list[i] = residue::narrow(own, q);
-    p
+    end
 }
 
 // Step 3: every pair of the n shares of the list, which is used up, takes a word from `start` on. The shares come to stand in front of the row.
@@ -146,6 +142,7 @@ fn refresh(
     ensures { (row.new ≡ overwrite row.old 0 (table n (refresh q n (after start (at words.now)) (at list.old)))) × (result ≡ start + pairs n) }
 {
     let mut p = start;
+    // By the number of the share, which says where its pairs begin.
     for i in 0..n {
         p = refresh_share(list, i, n, q, words, p);
         row[i] = list[i];
@@ -172,6 +169,7 @@ pub fn convert_at(
 }
 
 // The checks of a call that converts the k bits of n shares, with k times n(n - 1) words from `start` on: 1; 2; 3 (q below 3); 4; 6; 8 to 10.
+#[tactic(auto, unfolding(checks::specs::Checks::verdict))]
 pub fn check_value(
     n: usize,
     k: usize,
@@ -180,23 +178,23 @@ pub fn check_value(
     words: &[Word],
     start: usize,
     room: usize,
-) -> Checked
-    ensures { checked_reading result ≡ checked (value_checks n k q shares.now words.now start room) }
+) -> Result<(), Refusal>
+    ensures { reading result ≡ checked (value_checks n k q shares.now words.now start room) }
 {
     if !checks::within(2, 8, n) {
-        return checks::refuse(checks::SHARE_COUNT, 0);
+        return checks::refuse(Reason::ShareCount, 0);
     }
     if !checks::within(1, 16, k) {
-        return checks::refuse(checks::STRING_LENGTH, 0);
+        return checks::refuse(Reason::StringLength, 0);
     }
     if q < 3 {
-        return checks::refuse(checks::MODULUS, 0);
+        return checks::refuse(Reason::Modulus, 0);
     }
     if shares.len() != n {
-        return checks::refuse(checks::X_COUNT, 0);
+        return checks::refuse(Reason::XCount, 0);
     }
-    if let Found::At(i) = checks::first_wide(shares, k) {
-        return checks::refuse(checks::X_WIDTH, i);
+    if let Some(i) = checks::first_wide(shares, k) {
+        return checks::refuse(Reason::XWidth, i);
     }
     checks::check_output(words, start, k as u32, (n * (n - 1)) as u32, q, n, room)
 }
@@ -212,15 +210,13 @@ pub fn convert_bit(
     words: &[Word],
     start: usize,
     out: &mut [Word],
-) -> Answer
+) -> Result<usize, Refusal>
     ensures out_after { outcome result out.new ≡ converted n q bits.now words.now start out.old }
     ensures secrecy { BitSecrecy n q }
 {
-    if let Checked::Failed(r) = check_value(n, 1, q, bits, words, start, out.len()) {
-        return Answer::Refused(r);
-    }
+    check_value(n, 1, q, bits, words, start, out.len())?;
     let mut array = [0u16; 8];
     buffers::copy_eight(&mut array, bits);
     let lowest = bits_at(&array, 0);
-    Answer::Done(convert_at(&lowest, n, q, words, start, out))
+    Ok(convert_at(&lowest, n, q, words, start, out))
 }

@@ -1,8 +1,6 @@
 // A line for each call: the value's letter, the call, and what the library gives.
-use crate::print;
-use binomial::SignedAnswer;
-use checks::Answer;
-use masking::{OpenedResidue, OpenedString, ResidueAnswer, StringAnswer};
+use crate::print::{Given, Spaced};
+use masking::{OpenedResidue, OpenedString};
 use residue::Word;
 use std::io;
 
@@ -18,55 +16,37 @@ pub fn sample(
     words: &[Word],
     out: &mut [Word],
 ) -> io::Result<()> {
-    print::call(rt, letter, " sample", n, k)?;
-    print::modulus(rt, q)?;
-    print_lists(rt, x, y, words)?;
     let mut work: [Word; 8] = [65535; 8];
-    match sampler::sample(n, k, q, x, y, words, 0, out, &mut work) {
-        Answer::Done(count) => print_sample(rt, count, n, q, out)?,
-        Answer::Refused(r) => print::refused(rt, r)?,
+    let count = sampler::sample(n, k, q, x, y, words, 0, out, &mut work);
+    print!(rt;
+        "{letter} sample n {n} k {k} q {q} x{} y{} words{} {}",
+        Spaced(x),
+        Spaced(y),
+        Spaced(words),
+        Given("gives", count)
+    )?;
+    if count.is_ok() {
+        print_opened(rt, n, q, out)?;
     }
-    print::line(rt)
+    println!(rt)
 }
 
-fn print_lists(rt: &impl Print, x: &[u16], y: &[u16], words: &[Word]) -> io::Result<()> {
-    print::shares(rt, " x", x)?;
-    print::shares(rt, " y", y)?;
-    print::words(rt, " words", words)
-}
-
-fn print_sample(
-    rt: &impl Print,
-    count: usize,
-    n: usize,
-    q: Word,
-    shares: &[Word],
-) -> io::Result<()> {
-    print::gives(rt, count)?;
-    print::words(rt, " shares", shares)?;
-    match masking::open_residue(n, q, shares) {
-        ResidueAnswer::Opened(r) => {
-            print::residue(rt, r.0)?;
-            print_centred(rt, " centred", q, r)
-        }
-        ResidueAnswer::Refused(r) => print::refused(rt, r),
+fn print_opened(rt: &impl Print, n: usize, q: Word, shares: &[Word]) -> io::Result<()> {
+    let opened = masking::open_residue(n, q, shares);
+    let residue = opened.map(|r| r.0);
+    print!(rt; " shares{} {}", Spaced(shares), Given("residue", residue))?;
+    if let Ok(r) = opened {
+        print!(rt; " {}", Given("centred", binomial::centre(q, r)))?;
     }
-}
-
-fn print_centred(rt: &impl Print, name: &str, q: Word, r: OpenedResidue) -> io::Result<()> {
-    match binomial::centre(q, r) {
-        SignedAnswer::Value(z) => print::signed(rt, name, z),
-        SignedAnswer::Refused(f) => print::refused(rt, f),
-    }
+    Ok(())
 }
 
 pub fn centre(rt: &impl Print, letter: char, q: Word, r: Word) -> io::Result<()> {
-    print::letter(rt, letter)?;
-    print::text(rt, " centre")?;
-    print::modulus(rt, q)?;
-    print::residue(rt, r)?;
-    print_centred(rt, " gives", q, OpenedResidue(r))?;
-    print::line(rt)
+    let value = binomial::centre(q, OpenedResidue(r));
+    println!(rt;
+        "{letter} centre q {q} residue {r} {}",
+        Given("gives", value)
+    )
 }
 
 // The output has the n positions of the shares.
@@ -79,27 +59,15 @@ pub fn mask(
     masks: &[u16],
     out: &mut [u16],
 ) -> io::Result<()> {
-    print::call(rt, letter, " mask", n, k)?;
-    print::field(rt, " value", value as usize)?;
-    print::shares(rt, " masks", masks)?;
-    match masking::mask(n, k, OpenedString(value), masks, out) {
-        Answer::Done(count) => print_masked(rt, count, n, k, out)?,
-        Answer::Refused(r) => print::refused(rt, r)?,
+    let count = masking::mask(n, k, OpenedString(value), masks, out);
+    print!(rt;
+        "{letter} mask n {n} k {k} value {value} masks{} {}",
+        Spaced(masks),
+        Given("gives", count)
+    )?;
+    if count.is_ok() {
+        let opened = masking::open_string(n, k, out).map(|s| s.0);
+        print!(rt; " shares{} {}", Spaced(out), Given("opened", opened))?;
     }
-    print::line(rt)
-}
-
-fn print_masked(
-    rt: &impl Print,
-    count: usize,
-    n: usize,
-    k: usize,
-    shares: &[u16],
-) -> io::Result<()> {
-    print::gives(rt, count)?;
-    print::shares(rt, " shares", shares)?;
-    match masking::open_string(n, k, shares) {
-        StringAnswer::Opened(s) => print::field(rt, " opened", s.0 as usize),
-        StringAnswer::Refused(r) => print::refused(rt, r),
-    }
+    println!(rt)
 }

@@ -70,10 +70,9 @@ fn three_words(rt: &impl Print) -> io::Result<()> {
 }
 
 fn j(rt: &impl Print) -> io::Result<()> {
-    a_sized(rt, 'j', 1, 1)?;
-    a_sized(rt, 'j', 9, 1)?;
-    a_sized(rt, 'j', 2, 0)?;
-    a_sized(rt, 'j', 2, 17)?;
+    for (n, k) in [(1, 1), (9, 1), (2, 0), (2, 17)] {
+        a_sized(rt, 'j', n, k)?;
+    }
     wide_share(rt)?;
     three_words(rt)?;
     a_sized(rt, 'j', 1, 0)

@@ -1,81 +1,42 @@
-// Fields of a line, each with a space before it.
+// What stands in a line: lists, refusals, and what calls give.
 use checks::Refusal;
-use residue::Word;
-use std::io;
+use std::fmt;
 
-pub fn text(rt: &impl Print, s: &str) -> io::Result<()> {
-    rt.print(s)
-}
+// The elements, each with a space before it.
+#[derive(Clone, Copy)]
+pub struct Spaced<'a, T>(pub &'a [T]);
 
-pub fn letter(rt: &impl Print, letter: char) -> io::Result<()> {
-    rt.print(letter)
-}
-
-pub fn line(rt: &impl Print) -> io::Result<()> {
-    text(rt, "\n")
-}
-
-pub fn decimal(rt: &impl Print, x: usize) -> io::Result<()> {
-    rt.print(x)
-}
-
-pub fn number(rt: &impl Print, x: usize) -> io::Result<()> {
-    text(rt, " ")?;
-    decimal(rt, x)
-}
-
-pub fn field(rt: &impl Print, name: &str, x: usize) -> io::Result<()> {
-    text(rt, name)?;
-    number(rt, x)
-}
-
-// How a line begins that has a call with n and k.
-pub fn call(rt: &impl Print, value: char, name: &str, n: usize, k: usize) -> io::Result<()> {
-    letter(rt, value)?;
-    text(rt, name)?;
-    field(rt, " n", n)?;
-    field(rt, " k", k)
-}
-
-pub fn modulus(rt: &impl Print, q: Word) -> io::Result<()> {
-    field(rt, " q", residue::to_usize(q))
-}
-
-pub fn residue(rt: &impl Print, r: Word) -> io::Result<()> {
-    field(rt, " residue", residue::to_usize(r))
-}
-
-pub fn gives(rt: &impl Print, count: usize) -> io::Result<()> {
-    field(rt, " gives", count)
-}
-
-pub fn shares(rt: &impl Print, name: &str, list: &[u16]) -> io::Result<()> {
-    text(rt, name)?;
-    for share in list {
-        number(rt, *share as usize)?;
+impl<T: fmt::Display> fmt::Display for Spaced<'_, T> {
+    fn fmt<W: fmt::Write>(&self, f: &mut fmt::Formatter<W>) -> fmt::Result {
+        for x in self.0 {
+            write!(f, " {x}")?;
+        }
+        Ok(())
     }
-    Ok(())
 }
 
-pub fn words(rt: &impl Print, name: &str, list: &[Word]) -> io::Result<()> {
-    text(rt, name)?;
-    for word in list {
-        number(rt, residue::to_usize(*word))?;
+// The number of the reason, and the position.
+#[derive(Clone, Copy)]
+pub struct Refused(pub Refusal);
+
+impl fmt::Display for Refused {
+    fn fmt<W: fmt::Write>(&self, f: &mut fmt::Formatter<W>) -> fmt::Result {
+        let reason = u32::from(self.0.reason);
+        let position = self.0.position;
+        write!(f, "refused {reason} {position}")
     }
-    Ok(())
 }
 
-pub fn signed(rt: &impl Print, name: &str, z: i32) -> io::Result<()> {
-    text(rt, name)?;
-    if z < 0 {
-        text(rt, " -")?;
-    } else {
-        text(rt, " ")?;
+// A value with its name before it, or a refusal.
+#[derive(Clone, Copy)]
+pub struct Given<'a, T>(pub &'a str, pub Result<T, Refusal>);
+
+impl<T: fmt::Display> fmt::Display for Given<'_, T> {
+    fn fmt<W: fmt::Write>(&self, f: &mut fmt::Formatter<W>) -> fmt::Result {
+        let name = self.0;
+        match &self.1 {
+            Ok(value) => write!(f, "{name} {value}"),
+            Err(r) => write!(f, "{}", Refused(*r)),
+        }
     }
-    decimal(rt, residue::magnitude(z) as usize)
-}
-
-pub fn refused(rt: &impl Print, r: Refusal) -> io::Result<()> {
-    field(rt, " refused", r.code as usize)?;
-    number(rt, r.position)
 }

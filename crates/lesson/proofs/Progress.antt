@@ -1,12 +1,13 @@
 -- How far the lesson's lines have been written: those of the samples that the walk has made.
-use mathlib.Core.Path.{◌≡◌, ap, ◌∙◌}
+use mathlib.Core.Path.{◌≡◌}
 use mathlib.Core.List.{List, [], ◌∷◌, ◌++◌}
-use Prim.Native.Nat.{ℕ, ◌+◌, ◌≤◌}
+use Prim.Native.Nat.{ℕ, ◌+◌}
 use native.Mathlib.Omega.{arith}
 use lib.ListN.{length, length-append}
 use Rattle.checks.specs.Checks.{Verdict}
-use Rattle.text.specs.Text.{Wrote}
-use Rattle.text.specs.Laws.{wrote_nothing, wrote_then}
+use Rattle.text.specs.Text.{HasRoom, Written}
+use Rattle.text.specs.Laws.{written_nothing, written_then, room_left, room_behind}
+use Rattle.text.specs.declared.Writer.{Writer}
 use Rattle.lesson_file.specs.Records.{Sample}
 use Rattle.lesson_samples.specs.Lesson.{lesson, ending_verdict}
 use Rattle.lesson_samples.specs.Call.{SampleBuffers, after_lesson}
@@ -16,28 +17,28 @@ use Rattle.lesson_samples.specs.Walk.{Walk, Walked}
 use Rattle.lesson.specs.Text.{sample_line, sample_lines, lesson_lines}
 use Rattle.lesson.specs.TextLaws.{lines-append, lines_none, lines-last}
 
-pub record Progress (file : List ℕ) (first : SampleBuffers) (text : List ℕ) (start : ℕ) (now : SampleBuffers) (written : List ℕ) (p number end : ℕ) : Type 0 where
+pub record Progress (file : List ℕ) (first : SampleBuffers) (text : Writer) (now : SampleBuffers) (written : Writer) (p number : ℕ) : Type 0 where
   pub done : List Sample
   pub walk : Walk file first now done p
   pub numbered : number ≡ 1 + length done
-  pub wrote : Wrote text start (sample_lines 1 done) written end
+  pub wrote : Written text (sample_lines 1 done) written
 
-module _ (file : List ℕ) (first : SampleBuffers) (text : List ℕ) (start : ℕ) where
-  pub begun : Progress file first text start first text 0 1 start
-  begun = record { done = []; walk = walk.begun file first; numbered = omega arith; wrote = rw (lines_none 1) (wrote_nothing text start) }
+module _ (file : List ℕ) (first : SampleBuffers) (text : Writer) where
+  pub begun : Progress file first text first text 0 1
+  begun = record { done = []; walk = walk.begun file first; numbered = omega arith; wrote = rw (lines_none 1) (written_nothing text) }
 
-  module _ (now : SampleBuffers) (written : List ℕ) (p number end : ℕ) (g : Progress file first text start now written p number end) where
+  module _ (now : SampleBuffers) (written : Writer) (p number : ℕ) (g : Progress file first text now written p number) where
     -- no sample is left: the line of how the file ends is still to come
     module _ (after : SampleBuffers) (v : Verdict Unit) (w : Walked file first after g.done v) where
       lines-ended : lesson_lines (lesson file) ≡ sample_lines 1 g.done ++ ending_line v
       unfolding lesson_lines
       lines-ended = rw (w.samples, w.ending)
 
-      pub ending-room : start + length (lesson_lines (lesson file)) ≤ length text → end + length (ending_line v) ≤ length text
-      ending-room h = omega (arith, g.wrote.1, ap length lines-ended ∙ length-append (sample_lines 1 g.done) (ending_line v))
+      pub ending-room : HasRoom text (lesson_lines (lesson file)) → HasRoom written (ending_line v)
+      ending-room h = room_behind (sample_lines 1 g.done) (ending_line v) (rw lines-ended at h) g.wrote
 
-      pub finished : (last : List ℕ) (e : ℕ) → Wrote written end (ending_line v) last e → (after ≡ after_lesson (lesson file) first) × Wrote text start (lesson_lines (lesson file)) last e
-      finished last e d = (w.buffers, rw lines-ended (wrote_then _ _ _ _ g.wrote d))
+      pub finished : (last : Writer) → Written written (ending_line v) last → (after ≡ after_lesson (lesson file) first) × Written text (lesson_lines (lesson file)) last
+      finished last d = (w.buffers, rw lines-ended (written_then g.wrote d))
 
     -- one sample more
     module _ (s : Sample) (after : SampleBuffers) (r : ℕ) (w : Walk file first after (g.done ++ (s ∷ [])) r) where
@@ -48,8 +49,8 @@ module _ (file : List ℕ) (first : SampleBuffers) (text : List ℕ) (start : �
       unfolding lesson_lines
       lines_split = rw (← w.samples, lines-append, line-next) (simp length-append (omega arith))
 
-      pub sample-room : start + length (lesson_lines (lesson file)) ≤ length text → end + length (sample_line number s) ≤ length text
-      sample-room h = omega (arith, g.wrote.1, lines_split)
+      pub sample-room : HasRoom text (lesson_lines (lesson file)) → HasRoom written (sample_line number s)
+      sample-room h = room_left (sample_lines 1 g.done) (sample_line number s) (lesson_lines (lesson file)) (omega (arith, lines_split)) h g.wrote
 
-      pub advanced : (later : List ℕ) (e : ℕ) → Wrote written end (sample_line number s) later e → Progress file first text start after later r (number + 1) e
-      advanced later e d = record { done = g.done ++ (s ∷ []); walk = w; numbered = omega (arith, g.numbered, length-append g.done (s ∷ [])); wrote = rw line-next (wrote_then _ _ _ _ g.wrote d) }
+      pub advanced : (later : Writer) → Written written (sample_line number s) later → Progress file first text after later r (number + 1)
+      advanced later d = record { done = g.done ++ (s ∷ []); walk = w; numbered = omega (arith, g.numbered, length-append g.done (s ∷ [])); wrote = rw line-next (written_then g.wrote d) }

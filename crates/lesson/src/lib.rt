@@ -3,63 +3,48 @@
 
 mod lines;
 
-ghost use Rattle.std.specs.Prelude.{◌≡◌, ◌+◌, ◌≤◌, length};
+ghost use Rattle.std.specs.Prelude.{◌≡◌, length};
 ghost use Rattle.checks.specs.Answers.{outcome};
-ghost use Rattle.text.specs.Text.{Wrote};
+ghost use Rattle.text.specs.Text.{HasRoom, Written};
 ghost use Rattle.lesson_samples.specs.Lesson.{lesson};
-ghost use Rattle.lesson_samples.specs.Call.{sample_buffers, after_lesson, with_text};
-ghost use Rattle.lesson_samples.specs.Steps.{SampleRoom};
+ghost use Rattle.lesson_samples.specs.Call.{sample_buffers, held, SameBuffers, after_lesson, with_text};
+ghost use Rattle.lesson_samples.specs.Steps.{HasSampleRoom};
 ghost use Rattle.lesson.specs.Text.{lesson_lines, lesson_text, text_room, text_written};
 
-use checks::{Answer, Checked};
+use checks::Refusal;
 use lesson_file::Cursor;
-use lesson_samples::SampleAnswer;
+use lesson_samples::Buffers;
 use residue::Word;
+use text::Writer;
 
 // A line for each sample of the file, and one for a refusal.
-fn write_samples(
-    file: &[u8],
-    words: &mut [Word],
-    out: &mut [Word],
-    work: &mut [Word],
-    text: &mut [u8],
-    start: usize,
-) -> usize
-    requires { SampleRoom (length words.old) (length out.old) (length work.old) × (start + length (lesson_lines (lesson file.now)) ≤ length text.old) }
-    ensures { (sample_buffers words.new out.new work.new ≡ after_lesson (lesson file.now) (sample_buffers words.old out.old work.old)) × Wrote text.old start (lesson_lines (lesson file.now)) text.new result }
+fn write_samples(file: &[u8], buffers: &mut Buffers<'_>, text: &mut Writer<'_>)
+    requires { HasSampleRoom buffers.old × HasRoom text.old (lesson_lines (lesson file.now)) }
+    ensures { (held buffers.new ≡ after_lesson (lesson file.now) (held buffers.old)) × SameBuffers buffers.old buffers.new × Written text.old (lesson_lines (lesson file.now)) text.new }
 {
     let mut cursor = Cursor { at: 0 };
     let mut number = 1;
-    let mut end = start;
     while cursor.at < file.len() {
-        match lesson_samples::next_sample(file, cursor, words, out, work) {
-            SampleAnswer::Refused(r) => {
-                return lesson_samples::write_refusal(text, end, r);
+        let sampled = match lesson_samples::next_sample(file, cursor, buffers) {
+            Ok(sampled) => sampled,
+            Err(refusal) => {
+                lesson_samples::write_refusal(text, refusal);
+                return;
             }
-            SampleAnswer::Done(sampled) => {
-                let n = sampled.parameters.n;
-                end = lines::write_line(text, end, number, sampled, &out[..n]);
-                cursor = sampled.next;
-                number = number + 1;
-            }
-        }
+        };
+        lines::write_line(text, number, sampled, buffers.shares(sampled.parameters.n));
+        cursor = sampled.next;
+        number += 1;
     }
-    end
 }
 
 // The whole text: a header, and then the samples.
-fn write_lesson(
-    file: &[u8],
-    words: &mut [Word],
-    out: &mut [Word],
-    work: &mut [Word],
-    text: &mut [u8],
-) -> usize
-    requires { SampleRoom (length words.old) (length out.old) (length work.old) × (length (lesson_text file.now) ≤ length text.old) }
-    ensures { (sample_buffers words.new out.new work.new ≡ after_lesson (lesson file.now) (sample_buffers words.old out.old work.old)) × Wrote text.old 0 (lesson_text file.now) text.new result }
+fn write_lesson(file: &[u8], buffers: &mut Buffers<'_>, text: &mut Writer<'_>)
+    requires { HasSampleRoom buffers.old × HasRoom text.old (lesson_text file.now) }
+    ensures { (held buffers.new ≡ after_lesson (lesson file.now) (held buffers.old)) × SameBuffers buffers.old buffers.new × Written text.old (lesson_text file.now) text.new }
 {
-    let start = text::write_bytes(text, 0, b"no n k q used sample shares\n");
-    write_samples(file, words, out, work, text, start)
+    text.bytes(b"no n k q used sample shares\n");
+    write_samples(file, buffers, text);
 }
 
 // Room for the text of every file of this many bytes.
@@ -83,18 +68,13 @@ pub fn write_text(
     out: &mut [Word],
     work: &mut [Word],
     text: &mut [u8],
-) -> Answer
+) -> Result<usize, Refusal>
     ensures { outcome result (with_text (sample_buffers words.new out.new work.new) text.new) ≡ text_written file.now words.old out.old work.old text.old }
 {
     let room = text_room(file.len());
-    if let Checked::Failed(r) = lesson_samples::check_buffers(
-        room,
-        words.len(),
-        out.len(),
-        work.len(),
-        text.len(),
-    ) {
-        return Answer::Refused(r);
-    }
-    Answer::Done(write_lesson(file, words, out, work, text))
+    lesson_samples::check_buffers(room, words.len(), out.len(), work.len(), text.len())?;
+    let mut buffers = Buffers { words, out, work };
+    let mut writer = Writer { text, end: 0 };
+    write_lesson(file, &mut buffers, &mut writer);
+    Ok(writer.end)
 }

@@ -1,14 +1,13 @@
-// Reading lesson files (document 01, 'Lesson files and the lesson program'): a cursor by value, and an enum for what was read.
+// Reading lesson files (document 01, 'Lesson files and the lesson program'): a cursor by value.
 #![tactic(auto)]
 
 ghost use Rattle.std.specs.Prelude.{◌≡◌, ◌+◌, ◌*◌, ◌≤◌, length};
 ghost use Rattle.buffers.specs.Overwrite.{overwrite};
 ghost use Rattle.checks.specs.Checks.{checked, verdict};
-ghost use Rattle.checks.specs.Answers.{checked_reading, answer_reading};
+ghost use Rattle.checks.specs.Answers.{reading};
 ghost use Rattle.lesson_file.specs.Records.{number, words_from, marked, whole, record_checks, parameters_at, parameters_checks, y_first, ordered_checks, lists_at, lists_checks, word_count, words_checks, strings_checks, layout_from, layout_read};
-ghost use Rattle.lesson_file.specs.Answers.{parameters_reading, lists_reading, sample_reading};
 
-use checks::{Answer, Checked, Refusal};
+use checks::{Reason, Refusal};
 use residue::Word;
 
 // Where a record begins.
@@ -42,24 +41,6 @@ pub struct Layout {
     pub next: Cursor,
 }
 
-#[derive(Drop)]
-pub enum ParametersRead {
-    Whole(Parameters),
-    Refused(Refusal),
-}
-
-#[derive(Drop)]
-pub enum ListsRead {
-    Whole(Lists),
-    Refused(Refusal),
-}
-
-#[derive(Drop)]
-pub enum SampleRead {
-    Whole(Layout),
-    Refused(Refusal),
-}
-
 // The marks of the records.
 const PM: [u8; 2] = [b'P', b'M'];
 
@@ -73,60 +54,60 @@ const RW: [u8; 2] = [b'R', b'W'];
 pub const MOST_WORDS: usize = 1792;
 
 // A two-byte number, low byte first.
+#[tactic(auto, unfolding(crate::specs::Records::number))]
 fn number_at(file: &[u8], at: usize) -> u16
     requires { at + 2 ≤ length file.now }
     ensures { result ≡ number file.now at }
 {
-    let low = file[at] as u16;
-    let high = file[at + 1] as u16;
-    low + 256 * high
+    u16::from_le_bytes([file[at], file[at + 1]])
 }
 
+#[tactic(auto, unfolding(crate::specs::Records::marked))]
 fn has_mark(file: &[u8], at: usize, mark: [u8; 2]) -> bool
     requires { at + 2 ≤ length file.now }
     ensures { result ≡ marked file.now at mark }
 {
-    if file[at] != mark[0] {
-        return false;
-    }
-    file[at + 1] == mark[1]
+    file[at] == mark[0] && file[at + 1] == mark[1]
 }
 
 // Whether the file has `size` bytes from the position on, which may lie anywhere.
 fn has_bytes(file: &[u8], at: usize, size: usize) -> bool
     ensures { result ≡ (whole file.now at size).holds }
 {
-    if at <= file.len() {
-        return size <= file.len() - at;
-    }
-    false
+    at <= file.len() && size <= file.len() - at
 }
 
 // A whole mark, this one, and all the bytes of the record.
-fn check_record(file: &[u8], at: usize, mark: [u8; 2], size: usize) -> Checked
-    ensures { checked_reading result ≡ checked (record_checks file.now at mark size) }
+#[tactic(auto, unfolding(checks::specs::Checks::verdict))]
+fn check_record(file: &[u8], at: usize, mark: [u8; 2], size: usize) -> Result<(), Refusal>
+    ensures { reading result ≡ checked (record_checks file.now at mark size) }
 {
     if !has_bytes(file, at, 2) {
-        return checks::refuse(checks::CUT_SHORT, at);
+        return checks::refuse(Reason::CutShort, at);
     }
     if !has_mark(file, at, mark) {
-        return checks::refuse(checks::MARK, at);
+        return checks::refuse(Reason::Mark, at);
     }
     if !has_bytes(file, at, size) {
-        return checks::refuse(checks::CUT_SHORT, at);
+        return checks::refuse(Reason::CutShort, at);
     }
-    Checked::Passed
+    Ok(())
 }
 
 // XB and YB, of which `first` begins at the position.
-fn check_lists(file: &[u8], at: usize, n: usize, first: [u8; 2], second: [u8; 2]) -> Checked
+#[tactic(auto, unfolding(checks::specs::Checks::verdict))]
+fn check_lists(
+    file: &[u8],
+    at: usize,
+    n: usize,
+    first: [u8; 2],
+    second: [u8; 2],
+) -> Result<(), Refusal>
     requires { n ≤ 8 }
-    ensures { checked_reading result ≡ checked (ordered_checks file.now at n first second) }
+    ensures { reading result ≡ checked (ordered_checks file.now at n first second) }
 {
     let size = 2 + 2 * n;
-    if let Checked::Failed(r) = check_record(file, at, first, size) {
-        return Checked::Failed(r);
-    }
+    check_record(file, at, first, size)?;
     check_record(file, at + size, second, size)
 }
 
@@ -134,118 +115,85 @@ fn check_lists(file: &[u8], at: usize, n: usize, first: [u8; 2], second: [u8; 2]
 fn is_y_first(file: &[u8], at: usize) -> bool
     ensures { result ≡ y_first file.now at }
 {
-    if has_bytes(file, at, 2) {
-        return has_mark(file, at, YB);
-    }
-    false
+    has_bytes(file, at, 2) && has_mark(file, at, YB)
 }
 
 impl Cursor {
     // PM, put to checks 1, 2 and 3.
-    fn read_parameters(self, file: &[u8]) -> ParametersRead
-        ensures { parameters_reading result ≡ verdict (parameters_checks file.now self.at) (parameters_at file.now self.at) }
+    #[tactic(auto, unfolding(checks::specs::Checks::verdict))]
+    fn read_parameters(self, file: &[u8]) -> Result<Parameters, Refusal>
+        ensures { reading result ≡ verdict (parameters_checks file.now self.at) (parameters_at file.now self.at) }
     {
         let at = self.at;
-        if let Checked::Failed(r) = check_record(file, at, PM, 6) {
-            return ParametersRead::Refused(r);
-        }
-        let n = file[at + 2] as usize;
-        let k = file[at + 3] as usize;
+        check_record(file, at, PM, 6)?;
+        let n = usize::from(file[at + 2]);
+        let k = usize::from(file[at + 3]);
         let q = residue::from_u16(number_at(file, at + 4));
-        if let Checked::Failed(r) = checks::check_parameters(n, k, q) {
-            return ParametersRead::Refused(Refusal {
-                code: r.code,
-                position: at,
-            });
-        }
-        ParametersRead::Whole(Parameters { n: n, k: k, q: q })
+        checks::check_parameters(n, k, q).map_err(|r| Refusal { position: at, ..r })?;
+        Ok(Parameters { n, k, q })
     }
 
     // XB and YB, in either order.
-    fn read_lists(self, file: &[u8], n: usize) -> ListsRead
+    #[tactic(auto, unfolding(checks::specs::Checks::verdict))]
+    fn read_lists(self, file: &[u8], n: usize) -> Result<Lists, Refusal>
         requires { n ≤ 8 }
-        ensures { lists_reading result ≡ verdict (lists_checks file.now self.at n) (lists_at file.now self.at n) }
+        ensures { reading result ≡ verdict (lists_checks file.now self.at n) (lists_at file.now self.at n) }
     {
         let at = self.at;
         let size = 2 + 2 * n;
-        if is_y_first(file, at) {
-            if let Checked::Failed(r) = check_lists(file, at, n, YB, XB) {
-                return ListsRead::Refused(r);
-            }
-            let second = at + size;
-            return ListsRead::Whole(Lists {
-                x: second,
-                y: at,
-                next: Cursor { at: second + size },
-            });
-        }
-        if let Checked::Failed(r) = check_lists(file, at, n, XB, YB) {
-            return ListsRead::Refused(r);
-        }
-        let second = at + size;
-        ListsRead::Whole(Lists {
-            x: at,
-            y: second,
-            next: Cursor { at: second + size },
-        })
+        let y_first = is_y_first(file, at);
+        let (first, second) = if y_first { (YB, XB) } else { (XB, YB) };
+        check_lists(file, at, n, first, second)?;
+        let behind = at + size;
+        let (x, y) = if y_first { (behind, at) } else { (at, behind) };
+        let next = Cursor { at: behind + size };
+        Ok(Lists { x, y, next })
     }
 
     // RW: answers the count of its words.
-    fn read_words(self, file: &[u8]) -> Answer
-        ensures { answer_reading result ≡ verdict (words_checks file.now self.at) (word_count file.now self.at) }
+    #[tactic(auto, unfolding(checks::specs::Checks::verdict))]
+    fn read_words(self, file: &[u8]) -> Result<usize, Refusal>
+        ensures { reading result ≡ verdict (words_checks file.now self.at) (word_count file.now self.at) }
     {
         let at = self.at;
-        if let Checked::Failed(r) = check_record(file, at, RW, 4) {
-            return Answer::Refused(r);
-        }
-        let count = number_at(file, at + 2) as usize;
+        check_record(file, at, RW, 4)?;
+        let count = usize::from(number_at(file, at + 2));
         if MOST_WORDS < count {
-            return Answer::Refused(Refusal {
-                code: checks::WORD_LIMIT,
-                position: at,
-            });
+            return checks::refuse(Reason::WordLimit, at);
         }
         if !has_bytes(file, at, 4 + 2 * count) {
-            return Answer::Refused(Refusal {
-                code: checks::CUT_SHORT,
-                position: at,
-            });
+            return checks::refuse(Reason::CutShort, at);
         }
-        Answer::Done(count)
+        Ok(count)
     }
 
     // XB, YB and RW, behind these parameters.
-    fn read_strings(self, file: &[u8], parameters: Parameters) -> SampleRead
+    #[tactic(auto, unfolding(checks::specs::Checks::verdict))]
+    fn read_strings(self, file: &[u8], parameters: Parameters) -> Result<Layout, Refusal>
         requires { parameters.n ≤ 8 }
-        ensures { sample_reading result ≡ verdict (strings_checks file.now self.at parameters.n) (layout_from file.now self.at parameters) }
+        ensures { reading result ≡ verdict (strings_checks file.now self.at parameters.n) (layout_from file.now self.at parameters) }
     {
-        match self.read_lists(file, parameters.n) {
-            ListsRead::Refused(r) => SampleRead::Refused(r),
-            ListsRead::Whole(lists) => match lists.next.read_words(file) {
-                Answer::Refused(r) => SampleRead::Refused(r),
-                Answer::Done(count) => SampleRead::Whole(Layout {
-                    parameters: parameters,
-                    lists: lists,
-                    count: count,
-                    next: Cursor {
-                        at: lists.next.at + (4 + 2 * count),
-                    },
-                }),
-            },
-        }
+        let lists = self.read_lists(file, parameters.n)?;
+        let count = lists.next.read_words(file)?;
+        let next = Cursor {
+            at: lists.next.at + (4 + 2 * count),
+        };
+        Ok(Layout {
+            parameters,
+            lists,
+            count,
+            next,
+        })
     }
 
     // The records of a sample: PM, XB and YB in either order, RW. Past the end of the file no mark is whole: 19 at the cursor.
-    pub fn read_sample(self, file: &[u8]) -> SampleRead
-        ensures { sample_reading result ≡ layout_read file.now self.at }
+    #[tactic(auto, unfolding(checks::specs::Checks::verdict, crate::specs::Records::layout_at, crate::specs::Records::layout_checks))]
+    pub fn read_sample(self, file: &[u8]) -> Result<Layout, Refusal>
+        ensures { reading result ≡ layout_read file.now self.at }
     {
-        match self.read_parameters(file) {
-            ParametersRead::Refused(r) => SampleRead::Refused(r),
-            ParametersRead::Whole(parameters) => {
-                let lists = Cursor { at: self.at + 6 };
-                lists.read_strings(file, parameters)
-            }
-        }
+        let parameters = self.read_parameters(file)?;
+        let lists = Cursor { at: self.at + 6 };
+        lists.read_strings(file, parameters)
     }
 }
 
@@ -259,7 +207,8 @@ pub fn copy_shares(file: &[u8], at: usize, count: usize, shares: &mut [u16])
     }
 }
 
-// `count` random words, in front of `words`.
+// `count` random words, in front of `words`. A share has sixteen bits, and a word may come to have more: so these are two functions. Both lists are
+// gone over by the index, since what lies behind an adapter of `iter_mut` has no proof.
 pub fn copy_words(file: &[u8], at: usize, count: usize, words: &mut [Word])
     requires { (at + 2 * count ≤ length file.now) × (count ≤ length words.old) }
     ensures { words.new ≡ overwrite words.old 0 (words_from file.now at count) }

@@ -5,7 +5,6 @@ ghost use Rattle.std.specs.Prelude.{◌≡◌, List, ℕ, ◌≤◌, length, tak
 ghost use Rattle.lesson.specs.Text.{lesson_text};
 ghost use Rattle.lesson_samples.specs.Input.{Read};
 
-use checks::Answer;
 use residue::Word;
 
 // Puts the text of the whole input in front of `text`, and answers its length. A buffer with room for one byte past the limit is enough to know
@@ -20,16 +19,7 @@ fn make_text(buffer: &[u8], count: usize, words: &mut [Word], text: &mut [u8]) -
 {
     let mut out: [Word; 8] = [0; 8];
     let mut work: [Word; 8] = [0; 8];
-    if let Answer::Done(length) = lesson::write_text(
-        &buffer[..count],
-        words,
-        &mut out,
-        &mut work,
-        text,
-    ) {
-        return length;
-    }
-    0
+    lesson::write_text(&buffer[..count], words, &mut out, &mut work, text).unwrap_or(0)
 }
 
 // What `make_text` promises is proved; that the bytes read go to it, and its text to standard output, is these lines. Why a read failed is said

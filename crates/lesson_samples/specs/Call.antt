@@ -1,8 +1,9 @@
 -- A call that writes a text about a lesson file: its checks, and what the buffers hold after it.
-use Rattle.std.specs.Prelude.{List, [], ◌∷◌, ℕ, length, replicate}
+use Rattle.std.specs.Prelude.{◌≡◌, List, [], ◌∷◌, ℕ, length, replicate}
 use Rattle.buffers.specs.Overwrite.{overwrite}
 use Rattle.checks.specs.Checks.{Check, verdict, Outcome, settled, at_least}
 use Rattle.lesson_file.specs.Records.{Sample}
+use Rattle.lesson_samples.specs.declared.Buffers as declared
 use Rattle.lesson_samples.specs.Lesson.{shares_of, Lesson, lesson, Ending, complete, unread, unfit}
 
 -- the buffers that samples are made in: random words, output, work area
@@ -13,6 +14,16 @@ pub record SampleBuffers : Type 0 where
 
 abbrev pub sample_buffers : List ℕ → List ℕ → List ℕ → SampleBuffers
 sample_buffers words out work = record { words = words; out = out; work = work }
+
+-- what the code's buffers hold
+abbrev pub held : declared.Buffers → SampleBuffers
+held b = sample_buffers b.words.now b.out.now b.work.now
+
+-- the same buffers, whatever they hold
+pub record SameBuffers (b after : declared.Buffers) : Type 0 where
+  pub words : (after.words.ghost_name ≡ b.words.ghost_name) × (length after.words.now ≡ length b.words.now)
+  pub out : (after.out.ghost_name ≡ b.out.ghost_name) × (length after.out.now ≡ length b.out.now)
+  pub work : (after.work.ghost_name ≡ b.work.ghost_name) × (length after.work.now ≡ length b.work.now)
 
 -- RW fills the word buffer from the front
 abbrev pub loaded : Sample → SampleBuffers → SampleBuffers

@@ -1,11 +1,12 @@
 -- What the lesson is at a position of the file, and what the code learns of it from one sample.
-use Rattle.std.specs.Prelude.{◌≡◌, cond, List, [], ℕ, zero, suc, ◌+◌, ◌≤◌, ◌<◌, leb, length}
+use Rattle.std.specs.Prelude.{◌≡◌, Result, Ok, Err, cond, List, [], ℕ, zero, suc, ◌+◌, ◌≤◌, ◌<◌, leb, length}
 use Rattle.std.proofs.Math.Path.{refl}
 use Rattle.std.proofs.Common.{sym, ap, ◌∙◌, arith, le-leb}
 use Rattle.std.proofs.Math.Decide.{dec_le}
 use Rattle.std.proofs.lemmas.Bool.{lt-leb}
 use Rattle.checks.specs.Checks.{Verdict, accepted, refused, verdict, checked}
 use Rattle.checks.specs.Laws.{Hold, not_both, accepts, accepted-holds, accepted-answer, refuses-alike, settled-answer, settled-refused, settled-accepted}
+use Rattle.checks.specs.Answers.{code, outcome}
 use Rattle.checks.specs.declared.Refusal.{Refusal}
 use Rattle.lesson_file.specs.Layouts.{layout_longer}
 use Rattle.lesson_file.specs.Records.{layout_read, Sample, sample_of, layout_at, layout_checks}
@@ -13,10 +14,7 @@ use Rattle.lesson_file.specs.declared.Layout.{Layout}
 use Rattle.lesson_samples.specs.Lesson.{Lesson, complete, unread, unfit, ending_verdict, ends, before, judged, continued, samples_from, lesson_from, fit_checks}
 use Rattle.lesson_samples.specs.Call.{SampleBuffers, sampled_in, after_samples, after_lesson}
 use Rattle.lesson_samples.specs.Steps.{sampled_at, sample_judged, refused_with, next_sample}
-use Rattle.lesson_samples.specs.Answers.{sample_outcome}
 use Rattle.lesson_samples.specs.declared.Sampled.{Sampled}
-use Rattle.lesson_samples.specs.declared.SampleAnswer.{SampleAnswer}
-use Rattle.lesson_samples.specs.declared.SampleAnswer.TheVariants.{Done, Refused}
 
 -- ---- how many steps are allowed
 
@@ -118,39 +116,39 @@ module _ (file : List ℕ) (p : ℕ) (b : SampleBuffers) where
     unfolding next_sample
     next-unread code position e = rw (le-leb (length file) 60000 limit, e)
 
-  module _ (after : SampleBuffers) (a : SampleAnswer) (e : sample_outcome a after ≡ next_sample file b p) where
+  module _ (after : SampleBuffers) (a : Result Sampled Refusal) (e : outcome a after ≡ next_sample file b p) where
     -- how a refused sample ends the lesson
-    module _ (f : Refusal) (i : a ≡ Refused f) where
-      refused-outcome : sample_outcome (Refused f) after ≡ next_sample file b p
-      refused-outcome = sym (ap (λ a. sample_outcome a after) i) ∙ e
+    module _ (f : Refusal) (i : a ≡ Err f) where
+      refused-outcome : outcome (Err f) after ≡ next_sample file b p
+      refused-outcome = sym (ap (λ a. outcome a after) i) ∙ e
 
       -- a refusal without a sample
-      same_refusal : (code position : ℕ) → next_sample file b p ≡ refused_with file b code position → (f.code ≡ code) × (f.position ≡ position) × (after ≡ b)
-      same_refusal code position d =
+      same_refusal : (number position : ℕ) → next_sample file b p ≡ refused_with file b number position → (code f.reason ≡ number) × (f.position ≡ position) × (after ≡ b)
+      same_refusal number position d =
           let r = refused-outcome ∙ d in
-          let g : ◌≡◌ {A = Verdict Sampled} (refused f.code f.position) (refused code position) = ap (λ o. o.answer) r in
+          let g : ◌≡◌ {A = Verdict Sampled} (refused (code f.reason) f.position) (refused number position) = ap (λ o. o.answer) r in
           (cc, cc, ap (λ o. o.buffers) r)
 
-      pub next-refused : length file ≤ 60000 → p < length file → ((lesson_from file p).samples ≡ []) × (ending_verdict (lesson_from file p).ending ≡ refused f.code f.position) × (after ≡ after_lesson (lesson_from file p) b)
+      pub next-refused : length file ≤ 60000 → p < length file → ((lesson_from file p).samples ≡ []) × (ending_verdict (lesson_from file p).ending ≡ refused (code f.reason) f.position) × (after ≡ after_lesson (lesson_from file p) b)
       unfolding after_lesson after_samples
       next-refused limit o = go (layout_read file p) refl
         where
-          go : (v : Verdict Layout) → layout_read file p ≡ v → ((lesson_from file p).samples ≡ []) × (ending_verdict (lesson_from file p).ending ≡ refused f.code f.position) × (after ≡ after_lesson (lesson_from file p) b)
+          go : (v : Verdict Layout) → layout_read file p ≡ v → ((lesson_from file p).samples ≡ []) × (ending_verdict (lesson_from file p).ending ≡ refused (code f.reason) f.position) × (after ≡ after_lesson (lesson_from file p) b)
           go (accepted l) d =
               let h = accepted-holds (layout_at file p) l (layout_checks file p) d in
               let r = settled-refused _ _ _ (refused-outcome ∙ next-read limit h) in
-              rw (lesson-unfit file p f.code f.position o h (refuses-alike _ tt f.code f.position _ r.0)) (refl, refl, r.1)
+              rw (lesson-unfit file p (code f.reason) f.position o h (refuses-alike _ tt (code f.reason) f.position _ r.0)) (refl, refl, r.1)
           go (refused c m) d =
               let r = same_refusal c m (next-unread limit c m d) in
               rw (lesson-unread file p c m o d, r.0, r.1) (refl, refl, r.2)
 
-      pub next_too_long : 60000 < length file → (f.code ≡ 21) × (f.position ≡ 0) × (after ≡ b)
+      pub next_too_long : 60000 < length file → (code f.reason ≡ 21) × (f.position ≡ 0) × (after ≡ b)
       next_too_long l = same_refusal 21 0 (next-long l)
 
     -- that a sample was made
-    module _ (m : Sampled) (i : a ≡ Done m) where
-      done : sample_outcome (Done m) after ≡ next_sample file b p
-      done = sym (ap (λ a. sample_outcome a after) i) ∙ e
+    module _ (m : Sampled) (i : a ≡ Ok m) where
+      done : outcome (Ok m) after ≡ next_sample file b p
+      done = sym (ap (λ a. outcome a after) i) ∙ e
 
       pub next-limit : length file ≤ 60000
       next-limit = go (dec_le (length file) 60000)

@@ -2,7 +2,6 @@ pub mod Lesson
 pub mod Call
 pub mod RefusalLine
 pub mod Steps
-pub mod Answers
 pub mod SampleLaws
 pub mod SamplerLaws
 pub mod LessonLaws

@@ -1,5 +1,5 @@
 -- What it means, in plain facts, that a sample of a lesson file is accepted.
-use Rattle.std.specs.Prelude.{◌≡◌, List, [], ◌∷◌, ℕ, ◌+◌, ◌≤◌, ℤ, nat_abs, take}
+use Rattle.std.specs.Prelude.{◌≡◌, Result, Ok, Err, List, [], ◌∷◌, ℕ, ◌+◌, ◌≤◌, ℤ, nat_abs, take}
 use Rattle.std.proofs.Common.{sym, ◌∙◌, arith, leb-true, eq-eqb}
 use Rattle.std.proofs.Math.Path.{ap}
 use Rattle.std.proofs.Math.Nat.{zero-add}
@@ -10,9 +10,7 @@ use Rattle.buffers.specs.Laws.{take-front, length-overwrite}
 use Rattle.checks.specs.Checks.{accepted, refused, verdict, settled, parameter_checks, exactly, narrow}
 use Rattle.checks.specs.Laws.{Hold, hold-both, accepted-holds, accepted-answer, refuses-alike, settled-done, settled-refused, settled-accepted}
 use Rattle.checks.specs.declared.Refusal.{Refusal}
-use Rattle.checks.specs.declared.Answer.{Answer}
-use Rattle.checks.specs.declared.Answer.TheVariants.{Done, Refused}
-use Rattle.checks.specs.Answers.{outcome}
+use Rattle.checks.specs.Answers.{code, outcome}
 use Rattle.binomial.specs.Signed.{centred_value}
 use Rattle.totals.specs.Sample.{sample_words}
 use Rattle.sampler.specs.Accepted.{SharedPair, shared_pair}
@@ -71,8 +69,8 @@ module _ (file : List ℕ) (l : Layout) (w : WholeSample file l) (g : Hold (fit_
     opened_value = rw shares-taken (shares-centred sample-pair s.words)
 
 -- what the code learns from the sampler's answer
-module _ (file : List ℕ) (l : Layout) (b after : SampleBuffers) (a : Answer) (e : outcome a after ≡ sample_judged file b l (sample_words l.parameters.n l.parameters.k)) where
-  module _ (used : ℕ) (i : a ≡ Done used) where
+module _ (file : List ℕ) (l : Layout) (b after : SampleBuffers) (a : Result ℕ Refusal) (e : outcome a after ≡ sample_judged file b l (sample_words l.parameters.n l.parameters.k)) where
+  module _ (used : ℕ) (i : a ≡ Ok used) where
     settled_as : (verdict (fit_checks file l) (sample_words l.parameters.n l.parameters.k) ≡ accepted used) × (after ≡ sampled_in (sample_of file l) b)
     settled_as = settled-done _ _ _ (sym (ap (λ a. outcome a after) i) ∙ e)
 
@@ -82,7 +80,7 @@ module _ (file : List ℕ) (l : Layout) (b after : SampleBuffers) (a : Answer) (
     pub made_done : (value : ℤ) → value ≡ value_of (sample_of file l) → record { answer = accepted record { parameters = l.parameters; used = used; value = value; next = l.next }; buffers = after } ≡ sample_judged file b l (sampled_at file l)
     made_done value v = rw (v, accepted-answer _ used _ settled_as.0, made_holds.1) (sym (settled-accepted (sampled_at file l) (fit_checks file l) _ _ made_holds.0))
 
-  pub made_refused : (f : Refusal) → a ≡ Refused f → record { answer = refused f.code f.position; buffers = after } ≡ sample_judged file b l (sampled_at file l)
+  pub made_refused : (f : Refusal) → a ≡ Err f → record { answer = refused (code f.reason) f.position; buffers = after } ≡ sample_judged file b l (sampled_at file l)
   made_refused f i =
       let d = settled-refused _ _ _ (sym (ap (λ a. outcome a after) i) ∙ e) in
-      rw d.1 (ap (λ v. settled v (loaded (sample_of file l) b) (sampled_in (sample_of file l) b)) (sym (refuses-alike _ (sampled_at file l) f.code f.position _ d.0)))
+      rw d.1 (ap (λ v. settled v (loaded (sample_of file l) b) (sampled_in (sample_of file l) b)) (sym (refuses-alike _ (sampled_at file l) (code f.reason) f.position _ d.0)))

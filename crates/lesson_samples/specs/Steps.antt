@@ -6,6 +6,7 @@ use Rattle.lesson_file.specs.Records.{layout_read, sample_of}
 use Rattle.lesson_file.specs.declared.Layout.{Layout}
 use Rattle.lesson_samples.specs.Lesson.{value_of, fit_checks}
 use Rattle.lesson_samples.specs.Call.{SampleBuffers, loaded, sampled_in}
+use Rattle.lesson_samples.specs.declared.Buffers.{Buffers}
 use Rattle.lesson_samples.specs.declared.Sampled.{Sampled}
 
 -- room for every sample: 1,792 words, eight shares and their totals
@@ -13,6 +14,9 @@ pub record SampleRoom (words out work : ℕ) : Type 0 where
   pub word_room : 1792 ≤ words
   pub share-room : 8 ≤ out
   pub total-room : 8 ≤ work
+
+abbrev pub HasSampleRoom : Buffers → Type 0
+HasSampleRoom b = SampleRoom (length b.words.now) (length b.out.now) (length b.work.now)
 
 -- the parameters of a sample, how many words it takes, its value, and what follows it in the file
 abbrev pub sampled_at : List ℕ → Layout → Sampled

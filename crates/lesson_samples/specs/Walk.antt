@@ -1,5 +1,5 @@
 -- How far a walk through the samples of a file has come: those that were made, and the lesson that is left, make the whole.
-use Rattle.std.specs.Prelude.{◌≡◌, cond, List, [], ◌∷◌, ◌++◌, ℕ, ◌≤◌, ◌<◌, leb}
+use Rattle.std.specs.Prelude.{◌≡◌, Result, Ok, Err, cond, List, [], ◌∷◌, ◌++◌, ℕ, ◌≤◌, ◌<◌, leb}
 use Rattle.std.proofs.Math.Path.{refl}
 use Rattle.std.proofs.Common.{sym, ap, ◌∙◌, append_assoc, append-nil, le-leb, length-append}
 use Rattle.std.proofs.Math.Decide.{dec_le}
@@ -7,6 +7,7 @@ use native.Mathlib.Omega.{arith}
 use Rattle.std.proofs.lemmas.Bool.{lt-leb}
 use Rattle.std.proofs.Math.ListN.{length}
 use Rattle.checks.specs.Checks.{Verdict, accepted, refused}
+use Rattle.checks.specs.Answers.{code, outcome}
 use Rattle.checks.specs.declared.Refusal.{Refusal}
 use Rattle.lesson_file.specs.Layouts.{layout_longer}
 use Rattle.lesson_file.specs.Records.{Sample, sample_of, layout_at}
@@ -14,10 +15,7 @@ use Rattle.lesson_samples.specs.Lesson.{Lesson, lesson, lesson_from, unread, end
 use Rattle.lesson_samples.specs.LessonLaws.{lesson-ends, lesson-sample, next-refused, next_too_long, next-limit, next-holds, next-sampled}
 use Rattle.lesson_samples.specs.Call.{SampleBuffers, after_samples, after_lesson}
 use Rattle.lesson_samples.specs.Steps.{next_sample}
-use Rattle.lesson_samples.specs.Answers.{sample_outcome}
 use Rattle.lesson_samples.specs.declared.Sampled.{Sampled}
-use Rattle.lesson_samples.specs.declared.SampleAnswer.{SampleAnswer}
-use Rattle.lesson_samples.specs.declared.SampleAnswer.TheVariants.{Done, Refused}
 
 -- the lesson from position p on; nothing of a file that is too long is looked at
 unfoldable pub rest_from : List ℕ → ℕ → Lesson
@@ -85,13 +83,13 @@ module _ (file : List ℕ) (first : SampleBuffers) where
         go (yes l) = finished now (accepted tt) (rw (rest_short file p l, lesson-ends file p h) (refl, refl, refl))
         go (no l) = absurd (omega (arith, w.unwalked (omega arith)))
 
-    module _ (o : p < length file) (after : SampleBuffers) (a : SampleAnswer) (e : sample_outcome a after ≡ next_sample file now p) where
+    module _ (o : p < length file) (after : SampleBuffers) (a : Result Sampled Refusal) (e : outcome a after ≡ next_sample file now p) where
       -- it is refused here
-      pub refused-at : (f : Refusal) → a ≡ Refused f → Walked file first after done (refused f.code f.position)
+      pub refused-at : (f : Refusal) → a ≡ Err f → Walked file first after done (refused (code f.reason) f.position)
       unfolding after_lesson after_samples
       refused-at f i = go (dec_le (length file) 60000)
         where
-          go : Dec (length file ≤ 60000) → Walked file first after done (refused f.code f.position)
+          go : Dec (length file ≤ 60000) → Walked file first after done (refused (code f.reason) f.position)
           go (yes l) = finished after _ (rw (rest_short file p l) (next-refused file p now after a e f i l o))
           go (no l) =
               let long : 60000 < length file = omega arith in
@@ -99,7 +97,7 @@ module _ (file : List ℕ) (first : SampleBuffers) where
               finished after _ (rw (rest-long file p long, r.0, r.1) (refl, refl, r.2))
 
       -- one sample more
-      module _ (m : Sampled) (i : a ≡ Done m) where
+      module _ (m : Sampled) (i : a ≡ Ok m) where
         abbrev s : Sample
         s = sample_of file (layout_at file p)
 

@@ -11,7 +11,8 @@ use Rattle.std.proofs.lemmas.List.{get_or_at}
 use Rattle.residue.specs.Residue.{EachBelow}
 use Rattle.buffers.specs.Overwrite.{overwrite}
 use Rattle.buffers.specs.Laws.{take-front}
-use Rattle.checks.specs.Checks.{Verdict, accepted, verdict, settled, is_none}
+use Rattle.checks.specs.Checks.{Verdict, accepted, verdict, settled}
+use Rattle.std.specs.Prelude.{is_none}
 use Rattle.checks.specs.Laws.{Hold, accepts, accepted-holds, settled-answer, none-each-below, each-below-none, within_true}
 use Rattle.masking.specs.Sharing.{xor_all, mask_shares, mask_checks, masked, open_string_checks, opened_string}
 use Rattle.masking.specs.Xor.{xor_all-append, xor_all-one, xor_all_lt, xor_twice}

@@ -1,14 +1,13 @@
 -- What document 01 says for each case of the answers in the code.
-use Rattle.std.specs.Prelude.{ℕ}
-use Rattle.checks.specs.Checks.{Verdict, accepted}
-use Rattle.checks.specs.Answers.{refusal_reading}
-use Rattle.masking.specs.declared.StringAnswer.{StringAnswer}
-use Rattle.masking.specs.declared.ResidueAnswer.{ResidueAnswer}
+use Rattle.std.specs.Prelude.{ℕ, Result}
+use Rattle.checks.specs.Checks.{Verdict}
+use Rattle.checks.specs.Answers.{reading_by}
+use Rattle.checks.specs.declared.Refusal.{Refusal}
+use Rattle.masking.specs.declared.OpenedString.{OpenedString}
+use Rattle.masking.specs.declared.OpenedResidue.{OpenedResidue}
 
-abbrev pub string_reading : StringAnswer → Verdict ℕ
-string_reading (StringAnswer.Opened s) = accepted s.0
-string_reading (StringAnswer.Refused r) = refusal_reading r
+abbrev pub string_reading : Result OpenedString Refusal → Verdict ℕ
+string_reading r = reading_by (λ s. s.0) r
 
-abbrev pub residue_reading : ResidueAnswer → Verdict ℕ
-residue_reading (ResidueAnswer.Opened r) = accepted r.0
-residue_reading (ResidueAnswer.Refused r) = refusal_reading r
+abbrev pub residue_reading : Result OpenedResidue Refusal → Verdict ℕ
+residue_reading r = reading_by (λ s. s.0) r

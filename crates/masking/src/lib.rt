@@ -1,60 +1,48 @@
 // Boolean and arithmetic sharings: making and opening them.
 // A refused call changes nothing.
-#![tactic(auto)]
+#![tactic(auto, using(checks::specs::Laws::first_position), unfolding(checks::specs::Checks::verdict, crate::specs::Sharing::masked, crate::specs::Sharing::opened_string, crate::specs::Sharing::opened_residue))]
 
 ghost use Rattle.std.specs.Prelude.{◌≡◌, ◌^◌, ◌<◌, length};
 ghost use Rattle.residue.specs.Residue.{reduce, total, EachBelow};
 ghost use Rattle.buffers.specs.Overwrite.{overwrite};
 ghost use Rattle.checks.specs.Checks.{checked};
-ghost use Rattle.checks.specs.Answers.{checked_reading, outcome};
+ghost use Rattle.checks.specs.Answers.{reading, outcome};
 ghost use Rattle.masking.specs.Sharing.{xor_all, mask_shares, mask_checks, masked, open_string_checks, opened_string, open_residue_checks, opened_residue};
 ghost use Rattle.masking.specs.Answers.{string_reading, residue_reading};
 
-use checks::{Answer, Checked, Found, Refusal};
+use checks::{Reason, Refusal};
 use residue::Word;
 
 // The string that a Boolean sharing holds, opened.
-#[derive(Drop)]
+#[derive(Clone, Copy)]
 pub struct OpenedString(pub u16);
 
 // The residue that an arithmetic sharing holds, opened.
-#[derive(Drop)]
+#[derive(Clone, Copy)]
 pub struct OpenedResidue(pub Word);
 
-#[derive(Drop)]
-pub enum StringAnswer {
-    Opened(OpenedString),
-    Refused(Refusal),
-}
-
-#[derive(Drop)]
-pub enum ResidueAnswer {
-    Opened(OpenedResidue),
-    Refused(Refusal),
-}
-
-fn check_mask(n: usize, k: usize, value: u16, masks: &[u16], room: usize) -> Checked
-    ensures { checked_reading result ≡ checked (mask_checks n k value masks.now room) }
+fn check_mask(n: usize, k: usize, value: u16, masks: &[u16], room: usize) -> Result<(), Refusal>
+    ensures { reading result ≡ checked (mask_checks n k value masks.now room) }
 {
     if !checks::within(2, 8, n) {
-        return checks::refuse(checks::SHARE_COUNT, 0);
+        return checks::refuse(Reason::ShareCount, 0);
     }
     if !checks::within(1, 16, k) {
-        return checks::refuse(checks::STRING_LENGTH, 0);
+        return checks::refuse(Reason::StringLength, 0);
     }
     if !checks::is_narrow(value, k) {
-        return checks::refuse(checks::VALUE_WIDTH, 0);
+        return checks::refuse(Reason::ValueWidth, 0);
     }
     if masks.len() != n - 1 {
-        return checks::refuse(checks::MASK_COUNT, 0);
+        return checks::refuse(Reason::MaskCount, 0);
     }
-    if let Found::At(i) = checks::first_wide(masks, k) {
-        return checks::refuse(checks::MASK_WIDTH, i);
+    if let Some(i) = checks::first_wide(masks, k) {
+        return checks::refuse(Reason::MaskWidth, i);
     }
     if room < n {
-        return checks::refuse(checks::OUTPUT_ROOM, 0);
+        return checks::refuse(Reason::OutputRoom, 0);
     }
-    Checked::Passed
+    Ok(())
 }
 
 // The masks in their order, and then the value XOR all of them.
@@ -69,33 +57,36 @@ fn write_shares(value: u16, masks: &[u16], out: &mut [u16])
 
 // Makes n Boolean shares of the value out of n - 1 masks, and answers n. Output positions past n keep their content.
 // Refuses 1, 2, 12, 13, 14 with the mask's position, 10.
-pub fn mask(n: usize, k: usize, value: OpenedString, masks: &[u16], out: &mut [u16]) -> Answer
+pub fn mask(
+    n: usize,
+    k: usize,
+    value: OpenedString,
+    masks: &[u16],
+    out: &mut [u16],
+) -> Result<usize, Refusal>
     ensures { outcome result out.new ≡ masked n k value.0 masks.now out.old }
 {
-    let v = value.0;
-    if let Checked::Failed(r) = check_mask(n, k, v, masks, out.len()) {
-        return Answer::Refused(r);
-    }
-    write_shares(v, masks, out);
-    Answer::Done(n)
+    check_mask(n, k, value.0, masks, out.len())?;
+    write_shares(value.0, masks, out);
+    Ok(n)
 }
 
-fn check_open_string(n: usize, k: usize, shares: &[u16]) -> Checked
-    ensures { checked_reading result ≡ checked (open_string_checks n k shares.now) }
+fn check_open_string(n: usize, k: usize, shares: &[u16]) -> Result<(), Refusal>
+    ensures { reading result ≡ checked (open_string_checks n k shares.now) }
 {
     if !checks::within(2, 8, n) {
-        return checks::refuse(checks::SHARE_COUNT, 0);
+        return checks::refuse(Reason::ShareCount, 0);
     }
     if !checks::within(1, 16, k) {
-        return checks::refuse(checks::STRING_LENGTH, 0);
+        return checks::refuse(Reason::StringLength, 0);
     }
     if shares.len() != n {
-        return checks::refuse(checks::X_COUNT, 0);
+        return checks::refuse(Reason::XCount, 0);
     }
-    if let Found::At(i) = checks::first_wide(shares, k) {
-        return checks::refuse(checks::X_WIDTH, i);
+    if let Some(i) = checks::first_wide(shares, k) {
+        return checks::refuse(Reason::XWidth, i);
     }
-    Checked::Passed
+    Ok(())
 }
 
 // The XOR of a list.
@@ -104,39 +95,37 @@ fn xor_all(list: &[u16]) -> u16
     ensures { result ≡ xor_all list.now }
 {
     let mut all: u16 = 0;
-    for i in 0..list.len() {
-        all = all ^ list[i];
+    for share in list {
+        all ^= *share;
     }
     all
 }
 
 // Opens a Boolean sharing: the XOR of its n shares.
 // Refuses 1, 2, 4, 6 with the share's position.
-pub fn open_string(n: usize, k: usize, shares: &[u16]) -> StringAnswer
+pub fn open_string(n: usize, k: usize, shares: &[u16]) -> Result<OpenedString, Refusal>
     ensures { string_reading result ≡ opened_string n k shares.now }
 {
-    if let Checked::Failed(r) = check_open_string(n, k, shares) {
-        return StringAnswer::Refused(r);
-    }
-    StringAnswer::Opened(OpenedString(xor_all(shares)))
+    check_open_string(n, k, shares)?;
+    Ok(OpenedString(xor_all(shares)))
 }
 
-fn check_open_residue(n: usize, q: Word, shares: &[Word]) -> Checked
-    ensures { checked_reading result ≡ checked (open_residue_checks n q shares.now) }
+fn check_open_residue(n: usize, q: Word, shares: &[Word]) -> Result<(), Refusal>
+    ensures { reading result ≡ checked (open_residue_checks n q shares.now) }
 {
     if !checks::within(2, 8, n) {
-        return checks::refuse(checks::SHARE_COUNT, 0);
+        return checks::refuse(Reason::ShareCount, 0);
     }
     if q < 3 {
-        return checks::refuse(checks::MODULUS, 0);
+        return checks::refuse(Reason::Modulus, 0);
     }
     if shares.len() != n {
-        return checks::refuse(checks::ARITHMETIC_COUNT, 0);
+        return checks::refuse(Reason::ArithmeticCount, 0);
     }
-    if let Found::At(i) = checks::first_not_below(shares, 0, 1, n, q) {
-        return checks::refuse(checks::ARITHMETIC_RANGE, i);
+    if let Some(i) = checks::first_not_below(shares, 0, 1, n, q) {
+        return checks::refuse(Reason::ArithmeticRange, i);
     }
-    Checked::Passed
+    Ok(())
 }
 
 // The sum of a list modulo q.
@@ -145,19 +134,17 @@ fn sum_all(list: &[Word], q: Word) -> Word
     ensures { result ≡ reduce q (total list.now) }
 {
     let mut sum: Word = 0;
-    for t in 0..list.len() {
-        sum = residue::add_words(sum, list[t], q);
+    for word in list {
+        sum = residue::add_words(sum, *word, q);
     }
     sum
 }
 
 // Opens an arithmetic sharing: the sum of its n shares modulo q.
 // Refuses 1, 3 (q below 3), 15, 16 with the share's position.
-pub fn open_residue(n: usize, q: Word, shares: &[Word]) -> ResidueAnswer
+pub fn open_residue(n: usize, q: Word, shares: &[Word]) -> Result<OpenedResidue, Refusal>
     ensures { residue_reading result ≡ opened_residue n q shares.now }
 {
-    if let Checked::Failed(r) = check_open_residue(n, q, shares) {
-        return ResidueAnswer::Refused(r);
-    }
-    ResidueAnswer::Opened(OpenedResidue(sum_all(shares, q)))
+    check_open_residue(n, q, shares)?;
+    Ok(OpenedResidue(sum_all(shares, q)))
 }

@@ -1,5 +1,5 @@
 -- What holds of every call.
-use Rattle.std.specs.Prelude.{◌≡◌, true, List, [], ◌∷◌, ℕ, ◌+◌, ◌*◌, ◌^◌, ◌≤◌, ◌<◌, take}
+use Rattle.std.specs.Prelude.{is_none, ◌≡◌, true, List, [], ◌∷◌, ℕ, ◌+◌, ◌*◌, ◌^◌, ◌≤◌, ◌<◌, take}
 use Rattle.std.proofs.Common.{sym, ap₂, ◌∙◌, arith, eq-eqb}
 use Rattle.std.proofs.Math.Path.{ap}
 use Rattle.std.proofs.Math.ListN.{length, drop}
@@ -9,7 +9,7 @@ use Rattle.buffers.specs.Laws.{take-front, drop-front}
 use Rattle.buffers.specs.Positions.{at, block}
 use Rattle.buffers.specs.PositionLaws.{table_at}
 use Rattle.buffers.specs.Blocks.{block-fits, length-block, block-below, block-front, block-rows}
-use Rattle.checks.specs.Checks.{Check, Outcome, accepted, verdict, is_none, share_count, string_length, modulus_at_least, exactly, narrow, share_checks}
+use Rattle.checks.specs.Checks.{Check, Outcome, accepted, verdict, share_count, string_length, modulus_at_least, exactly, narrow, share_checks}
 use Rattle.checks.specs.Laws.{Hold, within_true, each-below-none, accepts, accepted-holds, settled-answer, settled-accepted, settled_keeps}
 use Rattle.masking.specs.Sharing.{xor_all, open_string_checks, opened_string}
 use Rattle.binomial.specs.Signed.{difference_of_weights}

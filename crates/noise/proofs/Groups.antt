@@ -1,5 +1,5 @@
 -- Four coefficients lie in k bytes, which the code reads as one number.
-use Rattle.std.specs.Prelude.{◌≡◌, List, ℕ, suc, ◌+◌, ◌-◌, ◌*◌, ◌/◌, ◌%◌, ◌^◌, ◌≤◌, ◌<◌, length}
+use Rattle.std.specs.Prelude.{◌≡◌, List, ℕ, ◌+◌, ◌-◌, ◌*◌, ◌/◌, ◌%◌, ◌^◌, ◌≤◌, ◌<◌}
 use Rattle.std.proofs.Math.Path.{refl}
 use Rattle.std.proofs.Common.{sym, ap, ◌∙◌, mod-eq_of_lt, arith}
 use Rattle.std.proofs.Math.Nat as N
@@ -67,10 +67,3 @@ module _ (bytes : List ℕ) (k i g : ℕ) (h : g < 64) where
 
   pub group_y : (c : ℕ) → c < 4 → word_at (8 * k) bytes (8 * group_at k i g) / 2 ^ (2 * k * c + k) % 2 ^ k ≡ word_at k (noise_string k bytes i) (y_bit k (4 * g + c))
   group_y c l = group_word c k l (N.le_refl k)
-
-  -- the group lies in the list
-  pub group_inside : (n : ℕ) → i < n → n * (64 * k) ≤ length bytes → group_at k i g + k ≤ length bytes
-  group_inside n l m =
-      let a : suc g * k ≤ 64 * k = N.mul-le-mul h (N.le_refl k) in
-      let b : suc i * (64 * k) ≤ n * (64 * k) = N.mul-le-mul l (N.le_refl (64 * k)) in
-      omega arith

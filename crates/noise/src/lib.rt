@@ -6,22 +6,21 @@ ghost use Rattle.std.specs.Prelude.{◌≡◌, ◌+◌, ◌*◌, ◌/◌, ◌%�
 ghost use Rattle.buffers.specs.Overwrite.{overwrite};
 ghost use Rattle.buffers.specs.Columns.{stored};
 ghost use Rattle.checks.specs.Checks.{checked};
-ghost use Rattle.checks.specs.Answers.{checked_reading, outcome};
+ghost use Rattle.checks.specs.Answers.{reading, outcome};
 ghost use Rattle.noise.specs.Split.{noise_string, word_at, x_bit, y_bit, noise_shares, set_of, list_checks, noise_checks, targets, noise_split};
 
-use binomial::SetAnswer;
-use checks::{Answer, Checked};
+use checks::{Reason, Refusal};
 
 // The k bytes from `start` on as one number, the lowest first.
 fn read_group(bytes: &[u8], start: usize, k: usize) -> u32
     requires { (2 ≤ k) × (k ≤ 3) × (start + k ≤ length bytes.now) }
     ensures { result ≡ word_at (8 * k) bytes.now (8 * start) }
 {
-    let low = bytes[start] as u32 + bytes[start + 1] as u32 * 256;
+    let low = u32::from(bytes[start]) + u32::from(bytes[start + 1]) * 256;
     if k == 2 {
         low
     } else {
-        low + bytes[start + 2] as u32 * 65536
+        low + u32::from(bytes[start + 2]) * 65536
     }
 }
 
@@ -30,7 +29,7 @@ fn low_bits(group: u32, k: usize) -> u16
     requires { k ≤ 3 }
     ensures { result ≡ group % 2 ^ k }
 {
-    (group & ((1u32 << k) - 1)) as u16
+    (group & ((1 << k) - 1)) as u16
 }
 
 // Stores the words of a group's four coefficients, n positions apart.
@@ -73,53 +72,63 @@ fn split_strings(bytes: &[u8], n: usize, k: usize, x: &mut [u16], y: &mut [u16])
 fn bits_of(set: usize) -> usize
     ensures { result ≡ (set_of set).k }
 {
-    match binomial::parameter_set(set) {
-        SetAnswer::Set(s) => s.k,
-        SetAnswer::Refused(_) => 0,
-    }
+    binomial::parameter_set(set).map_or(0, |s| s.k)
 }
 
-fn check_lists(n: usize, set: usize, k: usize, bytes: &[u8], xroom: usize, yroom: usize) -> Checked
+#[tactic(auto, unfolding(checks::specs::Checks::verdict))]
+fn check_lists(
+    n: usize,
+    set: usize,
+    k: usize,
+    bytes: &[u8],
+    xroom: usize,
+    yroom: usize,
+) -> Result<(), Refusal>
     requires { (n ≤ 8) × (k ≤ 16) }
-    ensures { checked_reading result ≡ checked (list_checks n set k bytes.now xroom yroom) }
+    ensures { reading result ≡ checked (list_checks n set k bytes.now xroom yroom) }
 {
     if !checks::within(1, 2, set) {
-        return checks::refuse(checks::NOISE_SET, 0);
+        return checks::refuse(Reason::NoiseSet, 0);
     }
     if bytes.len() != n * (64 * k) {
-        return checks::refuse(checks::NOISE_LENGTH, 0);
+        return checks::refuse(Reason::NoiseLength, 0);
     }
-    if xroom < 256 * n {
-        return checks::refuse(checks::OUTPUT_ROOM, 0);
+    if xroom < 256 * n || yroom < 256 * n {
+        return checks::refuse(Reason::OutputRoom, 0);
     }
-    if yroom < 256 * n {
-        return checks::refuse(checks::OUTPUT_ROOM, 0);
-    }
-    Checked::Passed
+    Ok(())
 }
 
-fn check_noise(n: usize, set: usize, bytes: &[u8], xroom: usize, yroom: usize) -> Checked
-    ensures { checked_reading result ≡ checked (noise_checks n set bytes.now xroom yroom) }
+fn check_noise(
+    n: usize,
+    set: usize,
+    bytes: &[u8],
+    xroom: usize,
+    yroom: usize,
+) -> Result<(), Refusal>
+    ensures { reading result ≡ checked (noise_checks n set bytes.now xroom yroom) }
 {
     if !checks::within(2, 8, n) {
-        return checks::refuse(checks::SHARE_COUNT, 0);
+        return checks::refuse(Reason::ShareCount, 0);
     }
-    match binomial::parameter_set(set) {
-        SetAnswer::Set(s) => check_lists(n, set, s.k, bytes, xroom, yroom),
-        SetAnswer::Refused(r) => Checked::Failed(r),
-    }
+    let s = binomial::parameter_set(set)?;
+    check_lists(n, set, s.k, bytes, xroom, yroom)
 }
 
 // Splits n strings of 64 * k bytes, one after the other, into the x and y shares of 256 coefficients, as sample_polynomial takes them with the k and q
 // of the set. Bit j of x in coefficient t is bit 2tk + j of the string, bit j of y is bit 2tk + k + j, the lowest of each byte first; share i comes
 // from string i. Answers 256n, the words written to each list. Positions past 256n keep their content.
 // Refuses 1; 22; 24 (a set that is not 1 or 2); 25 (not exactly n * 64 * k bytes); 10 (for x or y).
-pub fn split_noise(n: usize, set: usize, bytes: &[u8], x: &mut [u16], y: &mut [u16]) -> Answer
+pub fn split_noise(
+    n: usize,
+    set: usize,
+    bytes: &[u8],
+    x: &mut [u16],
+    y: &mut [u16],
+) -> Result<usize, Refusal>
     ensures { outcome result (targets x.new y.new) ≡ noise_split n set bytes.now x.old y.old }
 {
-    if let Checked::Failed(r) = check_noise(n, set, bytes, x.len(), y.len()) {
-        return Answer::Refused(r);
-    }
+    check_noise(n, set, bytes, x.len(), y.len())?;
     split_strings(bytes, n, bits_of(set), x, y);
-    Answer::Done(256 * n)
+    Ok(256 * n)
 }

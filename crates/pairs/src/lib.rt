@@ -10,7 +10,8 @@ fn next_row(row: [u64; 35]) -> [u64; 35]
     requires { Below (10 ^ 10) 35 (at row) }
     ensures { result ≡ next_row (at row) }
 {
-    let mut next = [0u64; 35];
+    let mut next = [0; 35];
+    // By the index, since the neighbours overlap, and what lies behind an adapter of `iter_mut` has no proof.
     for j in 0..33 {
         next[1 + j] = row[j] + 2 * row[j + 1] + row[j + 2];
     }
@@ -22,9 +23,9 @@ pub fn count_pairs(k: usize) -> [u64; 35]
     requires { k ≤ 16 }
     ensures { result ≡ pair_row k }
 {
-    let mut row = [0u64; 35];
+    let mut row = [0; 35];
     row[17] = 1;
-    for bits in 0..k {
+    for _bits in 0..k {
         row = next_row(row);
     }
     row
@@ -35,5 +36,5 @@ pub fn power_of_four(k: usize) -> usize
     requires { k ≤ 16 }
     ensures { result ≡ 4 ^ k }
 {
-    1usize << (2 * k)
+    1 << (2 * k)
 }

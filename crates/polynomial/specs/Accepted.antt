@@ -1,11 +1,10 @@
 -- What it means, in plain facts, that a call passes its checks.
-use Rattle.std.specs.Prelude.{◌≡◌, true, List, ℕ, ◌*◌, ◌^◌, ◌≤◌, ◌<◌, length}
+use Rattle.std.specs.Prelude.{◌≡◌, true, List, ℕ, ◌*◌, ◌^◌, ◌≤◌, ◌<◌, length, is_none}
 use Rattle.std.proofs.Common.{ap, arith, eqb-true, eq-eqb}
 use Rattle.std.proofs.Math.Nat as N
 use Rattle.buffers.specs.Positions.{block}
 use Rattle.buffers.specs.Blocks.{block-fits, length-block, block-below}
 use Rattle.checks.specs.Search.{first_not_below}
-use Rattle.checks.specs.Checks.{is_none}
 use Rattle.checks.specs.Laws.{Hold, within_true, none-each-below, each-below-none}
 use Rattle.sampler.specs.Sampler.{pair_checks}
 use Rattle.sampler.specs.Accepted.{Small, small, SharedPair, shared_pair, words-some, fit-first}

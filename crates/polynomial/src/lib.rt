@@ -1,19 +1,19 @@
 // Whole polynomials (document 02, A.1): m samples in one call, coefficient after coefficient.
 // No branch, index, comparison, division or remainder depends on a share, a bit or a random word behind the checks.
-#![tactic(auto)]
+#![tactic(auto, unfolding(checks::specs::Checks::verdict))]
 
 ghost use Rattle.std.specs.Prelude.{◌≡◌, ◌+◌, ◌*◌, ◌≤◌, length};
 ghost use Rattle.buffers.specs.Overwrite.{overwrite};
 ghost use Rattle.buffers.specs.Positions.{at, Same};
 ghost use Rattle.checks.specs.Checks.{checked};
-ghost use Rattle.checks.specs.Answers.{checked_reading, outcome};
+ghost use Rattle.checks.specs.Answers.{reading, outcome};
 ghost use Rattle.conversion.specs.Arrays.{Drawn, Modulus};
 ghost use Rattle.totals.specs.Sample.{sample_words};
 ghost use Rattle.sampler.specs.Sampler.{both};
 ghost use Rattle.polynomial.specs.Polynomial.{coefficient_shares, polynomial_shares, polynomial_words, strings_checks, polynomial_checks, sampled_polynomial};
 ghost use Rattle.polynomial.specs.Secrecy.{PolynomialSecrecy};
 
-use checks::{Answer, Checked};
+use checks::{Reason, Refusal};
 use residue::Word;
 
 // The sample of coefficient t, from the blocks t of x and y and that of the words, which begins at `start`, to block t of the output. The
@@ -65,14 +65,12 @@ fn write_coefficients(
     p
 }
 
-fn check_strings(n: usize, k: usize, q: Word, m: usize, x: &[u16], y: &[u16]) -> Checked
-    ensures { checked_reading result ≡ checked (strings_checks n k q m x.now y.now) }
+fn check_strings(n: usize, k: usize, q: Word, m: usize, x: &[u16], y: &[u16]) -> Result<(), Refusal>
+    ensures { reading result ≡ checked (strings_checks n k q m x.now y.now) }
 {
-    if let Checked::Failed(r) = checks::check_parameters(n, k, q) {
-        return Checked::Failed(r);
-    }
+    checks::check_parameters(n, k, q)?;
     if !checks::within(1, 256, m) {
-        return checks::refuse(checks::COEFFICIENT_COUNT, 0);
+        return checks::refuse(Reason::CoefficientCount, 0);
     }
     checks::check_shares(m * n, k, x, y)
 }
@@ -87,12 +85,10 @@ fn check_polynomial(
     words: &[Word],
     room: usize,
     area: usize,
-) -> Checked
-    ensures { checked_reading result ≡ checked (polynomial_checks n k q m x.now y.now words.now room area) }
+) -> Result<(), Refusal>
+    ensures { reading result ≡ checked (polynomial_checks n k q m x.now y.now words.now room area) }
 {
-    if let Checked::Failed(r) = check_strings(n, k, q, m, x, y) {
-        return Checked::Failed(r);
-    }
+    check_strings(n, k, q, m, x, y)?;
     let bits = (m * (2 * k)) as u32;
     let per = (n * (n - 1)) as u32;
     checks::check_buffers(words, 0, bits, per, q, m * n, room, n, area)
@@ -113,13 +109,11 @@ pub fn sample_polynomial(
     words: &[Word],
     out: &mut [Word],
     work: &mut [Word],
-) -> Answer
+) -> Result<usize, Refusal>
     ensures work_after { outcome result (both out.new work.new) ≡ sampled_polynomial n k q m x.now y.now words.now out.old work.old }
     ensures secrecy { PolynomialSecrecy n k q m }
 {
-    if let Checked::Failed(r) = check_polynomial(n, k, q, m, x, y, words, out.len(), work.len()) {
-        return Answer::Refused(r);
-    }
+    check_polynomial(n, k, q, m, x, y, words, out.len(), work.len())?;
     buffers::zero(work, n);
-    Answer::Done(write_coefficients(n, k, q, m, x, y, words, out, work))
+    Ok(write_coefficients(n, k, q, m, x, y, words, out, work))
 }

@@ -1,10 +1,11 @@
 -- Laws of lists of records and of their bytes.
-use Rattle.std.specs.Prelude.{◌≡◌, List, [], ◌∷◌, ◌++◌, ℕ, zero, suc, ◌+◌, ◌-◌, ◌*◌, ◌<◌, length, get_or, take, drop}
+use Rattle.std.specs.Prelude.{◌≡◌, List, [], ◌∷◌, ◌++◌, ℕ, zero, suc, ◌+◌, ◌-◌, ◌*◌, ◌≤◌, ◌<◌, length, get_or, take, drop}
 use Rattle.std.proofs.Math.Path.{refl}
 use Rattle.std.proofs.Common.{sym, ap, ap₂, ◌∙◌, append_assoc, append-nil, suc-le-suc, add-zero, zero-mul, mul-one, not-suc-le-zero, le_of_suc-le-suc, add-one, arith, length-append, take_at, drop_at, drop-drop}
 use Rattle.buffers.specs.Positions.{Same}
-use Rattle.text.specs.Laws.{wrote_nothing, wrote_then, wrote-length}
-use Rattle.records.specs.Records.{Step, step, none, step_bytes, record_bytes, bytes, across, per_share, Fits, Recorded}
+use Rattle.text.specs.declared.Writer.{Writer}
+use Rattle.text.specs.Laws.{wrote_nothing, wrote_then, wrote-length, written_nothing, written_then}
+use Rattle.records.specs.Records.{Step, step, none, step_bytes, record_bytes, bytes, across, per_share, Fits, Recorded, FitsIn, RecordedBy}
 
 -- ---- lists one behind the other
 
@@ -96,6 +97,23 @@ fits-first l a s t h = record { room = omega (arith, h.room, length-append s t) 
 
 pub fits-rest : (l : List ℕ) (a : ℕ) (s t : List Step) {m : List ℕ} {b : ℕ} → Fits l a (s ++ t) → Recorded l a s m b → Fits m b t
 fits-rest l a s t h d = record { room = omega (arith, h.room, length-append s t, recorded_end l a s d, recorded_length l a s (fits-first l a s t h) d) }
+
+-- ---- what a writer recorded
+
+pub records_none : (w : Writer) → RecordedBy w [] w
+unfolding bytes
+records_none w = written_nothing w
+
+pub records_then : {w u v : Writer} (s t : List Step) → RecordedBy w s u → RecordedBy u t v → RecordedBy w (s ++ t) v
+records_then s t d f = rw (bytes-append s t) (written_then d f)
+
+-- records of a longer list
+pub fits_left : {w u : Writer} (s t l : List Step) → length s + length t ≤ length l → FitsIn w l → RecordedBy w s u → FitsIn u t
+fits_left {w} s t l m h d =
+    record { room = omega (arith, h.room, recorded_end w.text.now w.end s d.wrote, recorded_length w.text.now w.end s (record { room = omega (arith, h.room) }) d.wrote) }
+
+pub fits_behind : {w u : Writer} (s t : List Step) → FitsIn w (s ++ t) → RecordedBy w s u → FitsIn u t
+fits_behind {w} s t h d = fits-rest w.text.now w.end s t h d.wrote
 
 -- ---- what is left to write
 

@@ -1,7 +1,18 @@
 -- A step record (document 02, A.8) and the bytes of a list of them.
 use Rattle.std.specs.Prelude.{List, [], ◌∷◌, ◌++◌, ℕ, zero, suc, ◌+◌, ◌*◌, ◌/◌, ◌%◌, ◌≤◌, length}
 use Rattle.text.specs.Ascii.{ascii}
-use Rattle.text.specs.Text.{Wrote}
+use Rattle.text.specs.declared.Writer.{Writer}
+use Rattle.text.specs.Text.{Wrote, Written}
+use Rattle.records.specs.declared.Kind.{Kind}
+
+-- the number that a record shows
+abbrev pub code : Kind → ℕ
+code Kind.Share = 0
+code Kind.Extended = 1
+code Kind.Product = 2
+code Kind.Converted = 3
+code Kind.Pair = 4
+code Kind.Total = 5
 
 -- the fields behind the mark; rounds, pairs and shares are counted from 1
 pub record Step : Type 0 where
@@ -50,3 +61,11 @@ pub record Fits (l : List ℕ) (start : ℕ) (steps : List Step) : Type 0 where
 -- the records were written at `start`, and `end` is the position behind them
 abbrev pub Recorded : List ℕ → ℕ → List Step → List ℕ → ℕ → Type 0
 Recorded before start steps after end = Wrote before start (bytes steps) after end
+
+-- a writer has room for the records behind what it wrote
+abbrev pub FitsIn : Writer → List Step → Type 0
+FitsIn w steps = Fits w.text.now w.end steps
+
+-- a writer wrote the records behind that, into the same buffer
+abbrev pub RecordedBy : Writer → List Step → Writer → Type 0
+RecordedBy w steps after = Written w (bytes steps) after

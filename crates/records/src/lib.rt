@@ -1,14 +1,29 @@
-// Step records as bytes (document 02, A.8). Each function writes from a position on and answers the position behind what it wrote.
+// Step records as bytes (document 02, A.8).
 #![tactic(auto)]
 
 ghost use Rattle.std.specs.Prelude.{◌≡◌, [], ◌∷◌, ◌≤◌, length};
 ghost use Rattle.buffers.specs.Positions.{at};
-ghost use Rattle.records.specs.Records.{step, value_bytes, per_share, Fits, Recorded};
+ghost use Rattle.records.specs.Records.{code, step, value_bytes, per_share, FitsIn, RecordedBy};
 
 use residue::Word;
+use text::Writer;
 
-// The mark of a record.
-const ST: [u8; 2] = [b'S', b'T'];
+// What the value of a record is.
+#[derive(Clone, Copy, PartialEq, Eq)]
+pub enum Kind {
+    // The next share of the bit, b(j).
+    Share = 0,
+    // B.
+    Extended = 1,
+    // B times b(j).
+    Product = 2,
+    // C, with b(j) in its first.
+    Converted = 3,
+    // A share after a pair's word.
+    Pair = 4,
+    // A running output share.
+    Total = 5,
+}
 
 // The bytes of a record.
 pub const RECORD_BYTES: usize = 8;
@@ -21,39 +36,26 @@ fn value_bytes(value: Word) -> [u8; 2]
     [(number & 255) as u8, (number >> 8) as u8]
 }
 
-pub fn write_record(
-    records: &mut [u8],
-    position: usize,
-    bit: u8,
-    round: u8,
-    share: u8,
-    kind: u8,
-    value: Word,
-) -> usize
-    requires { Fits records.old position (step bit round share kind value ∷ []) }
-    ensures { Recorded records.old position (step bit round share kind value ∷ []) records.new result }
+// A record: its mark, and its fields.
+#[tactic(auto, unfolding(crate::specs::Records::bytes))]
+pub fn write_record(out: &mut Writer<'_>, bit: u8, round: u8, share: u8, kind: Kind, value: Word)
+    requires { FitsIn out.old (step bit round share (code kind) value ∷ []) }
+    ensures { RecordedBy out.old (step bit round share (code kind) value ∷ []) out.new }
 {
-    let number = value_bytes(value);
-    let record = [ST[0], ST[1], bit, round, share, kind, number[0], number[1]];
-    text::write_bytes(records, position, &record)
+    let [low, high] = value_bytes(value);
+    let record = [b'S', b'T', bit, round, share, kind as u8, low, high];
+    // Eight bytes, so that the copy is one store: `out.bytes` is a call.
+    let p = out.end;
+    out.text[p..p + RECORD_BYTES].copy_from_slice(&record);
+    out.end = p + RECORD_BYTES;
 }
 
 // A record for each of the first n values, which are those of the shares from 1 on.
-pub fn write_group(
-    records: &mut [u8],
-    position: usize,
-    bit: u8,
-    round: u8,
-    kind: u8,
-    n: usize,
-    values: &[Word],
-) -> usize
-    requires { (n ≤ 8) × (n ≤ length values.now) × Fits records.old position (per_share n bit round kind (at values.now)) }
-    ensures { Recorded records.old position (per_share n bit round kind (at values.now)) records.new result }
+pub fn write_group(out: &mut Writer<'_>, bit: u8, round: u8, kind: Kind, n: usize, values: &[Word])
+    requires { (n ≤ 8) × (n ≤ length values.now) × FitsIn out.old (per_share n bit round (code kind) (at values.now)) }
+    ensures { RecordedBy out.old (per_share n bit round (code kind) (at values.now)) out.new }
 {
-    let mut end = position;
-    for i in 0..n {
-        end = write_record(records, end, bit, round, (i + 1) as u8, kind, values[i]);
+    for (i, value) in values[..n].iter().enumerate() {
+        write_record(out, bit, round, (i + 1) as u8, kind, *value);
     }
-    end
 }

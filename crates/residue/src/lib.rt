@@ -27,7 +27,7 @@ pub fn sub(a: Wide, b: Wide, q: Wide) -> Wide
     requires { (b ≤ q) × (a < q + b) × (q < 2 ^ 31) }
     ensures { result ≡ sub q a b }
 {
-    wrapping_sub(a as u64, b as u64, 0, q as u64) as Wide
+    wrapping_sub(u64::from(a), u64::from(b), 0, u64::from(q)) as Wide
 }
 
 // (a - b) mod q, or (b - a) mod q where `swap` is 1.
@@ -35,7 +35,7 @@ pub fn cswap_sub(a: Wide, b: Wide, swap: Wide, q: Wide) -> Wide
     requires { (a < q) × (b < q) × (swap < 2) × (q < 2 ^ 31) }
     ensures { result ≡ cswap_sub q swap a b }
 {
-    wrapping_sub(a as u64, b as u64, swap as u64, q as u64) as Wide
+    wrapping_sub(u64::from(a), u64::from(b), u64::from(swap), u64::from(q)) as Wide
 }
 
 // (a + b) mod q.
@@ -49,7 +49,7 @@ pub fn add(a: Wide, b: Wide, q: Wide) -> Wide
 pub fn widen(x: Word) -> Wide
     ensures { result ≡ x }
 {
-    x as Wide
+    Wide::from(x)
 }
 
 // Loses nothing: what is below a Word fits a Word.
@@ -92,9 +92,5 @@ pub fn difference(a: Word, b: Word) -> i32
 pub fn magnitude(z: i32) -> u32
     ensures { result ≡ nat_abs z }
 {
-    if z < 0 {
-        (0 - (z as i64)) as u32
-    } else {
-        z as u32
-    }
+    z.unsigned_abs()
 }

@@ -1,11 +1,11 @@
 -- The shares of a sample, opened and centred, give what the plain weight difference of the opened strings gives.
-use Rattle.std.specs.Prelude.{◌≡◌, List, ℕ, ◌^◌, ◌≤◌, ◌<◌, nat_abs, take}
+use Rattle.std.specs.Prelude.{◌≡◌, List, ℕ, ◌^◌, ◌≤◌, ◌<◌, nat_abs, take, is_none}
 use Rattle.std.proofs.Common.{sym, ◌∙◌, le-leb, lt-ltb, eq-eqb}
 use Rattle.std.proofs.Math.Path.{ap}
 use Rattle.std.proofs.Math.ListN.{length}
 use Rattle.residue.specs.Residue.{reduce, reduceℤ, total, EachBelow}
 use Rattle.residue.proofs.Integers.{minus_le}
-use Rattle.checks.specs.Checks.{accepted, is_none}
+use Rattle.checks.specs.Checks.{accepted}
 use Rattle.checks.specs.Laws.{Hold, accepts, each-below-none}
 use Rattle.masking.specs.Sharing.{xor_all, open_residue_checks, opened_residue, open_string_checks, opened_string}
 use Rattle.masking.specs.Xor.{xor_all_lt}

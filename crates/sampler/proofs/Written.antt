@@ -1,12 +1,11 @@
 -- What holds of every call that leaves shares in front of the output and zeros in front of the work area.
-use Rattle.std.specs.Prelude.{◌≡◌, List, ◌++◌, ℕ, ◌<◌, length, take, drop, replicate}
+use Rattle.std.specs.Prelude.{◌≡◌, List, ◌++◌, ℕ, ◌<◌, Ok, length, take, drop, replicate}
 use Rattle.std.proofs.Common.{sym, ap, ap₂, ◌∙◌}
 use Rattle.std.proofs.lemmas.List.{length-replicate}
 use Rattle.buffers.specs.Overwrite.{overwrite}
 use Rattle.buffers.specs.Laws.{take-front, drop-front}
 use Rattle.checks.specs.Checks.{Check, Outcome, Verdict, accepted, verdict, settled, room_checks, buffer_checks}
 use Rattle.checks.specs.Laws.{Hold, accepted-holds, settled-accepted, settled-answer, settled_keeps, settled_same, settled-behind, words_around}
-use Rattle.checks.specs.declared.Answer.TheVariants.{Done}
 use Rattle.checks.specs.Answers.{outcome}
 use Rattle.sampler.specs.Sampler.{Buffers, both, shares_written}
 
@@ -46,7 +45,7 @@ module _ (checks : List Check) (end : ℕ) (shares : List ℕ) (zeros : ℕ) (ou
       ∙ ap (λ (u : Verdict ℕ). settled u (both out work) (filled shares')) v
 
 -- what the code answers and leaves
-pub answered : {end end' : ℕ} {out out' work work' : List ℕ} → end ≡ end' → out ≡ out' → work ≡ work' → outcome (Done end) (both out work) ≡ outcome (Done end') (both out' work')
+pub answered : {end end' : ℕ} {out out' work work' : List ℕ} → end ≡ end' → out ≡ out' → work ≡ work' → outcome (Ok end) (both out work) ≡ outcome (Ok end') (both out' work')
 answered e o w = rw (e, o, w)
 
 -- the answer depends on the lengths of output and work area, not on what they held

@@ -1,22 +1,20 @@
 // The masked binomial sampler (document 01, 'The sample'; source 003, Algorithm 10).
 // No branch, index, comparison, division or remainder depends on a share, a bit or a random word behind the checks.
-#![tactic(auto)]
+#![tactic(auto, unfolding(checks::specs::Checks::verdict))]
 
 ghost use Rattle.std.specs.Prelude.{◌≡◌};
 ghost use Rattle.checks.specs.Checks.{checked};
-ghost use Rattle.checks.specs.Answers.{checked_reading, outcome};
+ghost use Rattle.checks.specs.Answers.{reading, outcome};
 ghost use Rattle.sampler.specs.Sampler.{pair_checks, sample_checks, both, sampled};
 ghost use Rattle.sampler.specs.Secrecy.{Secrecy};
 
-use checks::{Answer, Checked};
+use checks::Refusal;
 use residue::Word;
 
-fn check_pair(n: usize, k: usize, q: Word, x: &[u16], y: &[u16]) -> Checked
-    ensures { checked_reading result ≡ checked (pair_checks n k q x.now y.now) }
+fn check_pair(n: usize, k: usize, q: Word, x: &[u16], y: &[u16]) -> Result<(), Refusal>
+    ensures { reading result ≡ checked (pair_checks n k q x.now y.now) }
 {
-    if let Checked::Failed(r) = checks::check_parameters(n, k, q) {
-        return Checked::Failed(r);
-    }
+    checks::check_parameters(n, k, q)?;
     checks::check_shares(n, k, x, y)
 }
 
@@ -30,12 +28,10 @@ pub fn check_sample(
     start: usize,
     room: usize,
     area: usize,
-) -> Checked
-    ensures { checked_reading result ≡ checked (sample_checks n k q x.now y.now words.now start room area) }
+) -> Result<(), Refusal>
+    ensures { reading result ≡ checked (sample_checks n k q x.now y.now words.now start room area) }
 {
-    if let Checked::Failed(r) = check_pair(n, k, q, x, y) {
-        return Checked::Failed(r);
-    }
+    check_pair(n, k, q, x, y)?;
     let bits = (2 * k) as u32;
     let per = (n * (n - 1)) as u32;
     checks::check_buffers(words, start, bits, per, q, n, room, n, area)
@@ -56,17 +52,15 @@ pub fn sample(
     start: usize,
     out: &mut [Word],
     work: &mut [Word],
-) -> Answer
+) -> Result<usize, Refusal>
     ensures work_after { outcome result (both out.new work.new) ≡ sampled n k q x.now y.now words.now start out.old work.old }
     ensures secrecy { Secrecy n k q }
 {
-    if let Checked::Failed(r) = check_sample(n, k, q, x, y, words, start, out.len(), work.len()) {
-        return Answer::Refused(r);
-    }
+    check_sample(n, k, q, x, y, words, start, out.len(), work.len())?;
     let mut a = [0u16; 8];
     let mut b = [0u16; 8];
     buffers::copy_eight(&mut a, x);
     buffers::copy_eight(&mut b, y);
     buffers::zero(work, n);
-    Answer::Done(totals::write_sample(n, k, q, &a, &b, &words[..], start, out, work))
+    Ok(totals::write_sample(n, k, q, &a, &b, &words[..], start, out, work))
 }

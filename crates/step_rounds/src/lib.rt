@@ -7,10 +7,13 @@ ghost use Rattle.residue.specs.Residue.{mul};
 ghost use Rattle.buffers.specs.Positions.{at, after, Below};
 ghost use Rattle.conversion.specs.Conversion.{pairs, extend, xor_bit, xor_share, convert};
 ghost use Rattle.conversion.specs.Arrays.{Holds, Drawn, Modulus};
-ghost use Rattle.records.specs.Records.{across, Fits, Recorded};
+ghost use Rattle.records.specs.Records.{across, FitsIn, RecordedBy};
 ghost use Rattle.steps.specs.Steps.{list_steps, added_steps, round_steps};
 
+use conversion::Unrefreshed;
+use records::Kind;
 use residue::{Wide, Word};
+use text::Writer;
 
 // B of round j + 1: the list for j shares less the j words at `start`, and behind it the sum of the words.
 fn extend(a: [Word; 8], j: usize, q: Word, words: &[Word], start: usize) -> [Word; 8]
@@ -20,8 +23,8 @@ fn extend(a: [Word; 8], j: usize, q: Word, words: &[Word], start: usize) -> [Wor
     let modulus = residue::widen(q);
     let mut list: [Word; 8] = [0; 8];
     let mut sum: Wide = 0;
-    for i in 0..j {
-        let r = residue::widen(words[start + i]);
+    for (i, word) in words[start..start + j].iter().enumerate() {
+        let r = residue::widen(*word);
         list[i] = residue::narrow(residue::sub(residue::widen(a[i]), r, modulus), q);
         sum = residue::add(sum, r, modulus);
     }
@@ -36,8 +39,8 @@ fn multiply(list: [Word; 8], n: usize, bit: Word, q: Word) -> [Word; 8]
 {
     let b = residue::widen(bit);
     let mut products: [Word; 8] = [0; 8];
-    for i in 0..n {
-        products[i] = residue::narrow(residue::widen(list[i]) * b, q);
+    for (i, word) in list[..n].iter().enumerate() {
+        products[i] = residue::narrow(residue::widen(*word) * b, q);
     }
     products
 }
@@ -49,40 +52,31 @@ fn xor_bit(list: [Word; 8], n: usize, bit: Word, q: Word) -> [Word; 8]
 {
     let b = residue::widen(bit);
     let mut c: [Word; 8] = [0; 8];
-    for i in 0..n {
-        c[i] = conversion::less_twice(residue::widen(list[i]), 0, b, q);
+    for (i, word) in list[..n].iter().enumerate() {
+        c[i] = conversion::less_twice(residue::widen(*word), 0, b, q);
     }
     c[0] = residue::add_words(c[0], bit, q);
     c
 }
 
-// The records of round j + 1, with the share b of the bit and three lists. Answers the position behind them.
+// The records of round j + 1, with the share b of the bit and three lists.
 fn write_round(
-    records: &mut [u8],
-    position: usize,
+    out: &mut Writer<'_>,
     bit: u8,
     j: usize,
     b: Word,
     extended: &[Word],
     products: &[Word],
     list: &[Word],
-) -> usize
-    requires { (j < 8) × (j < length extended.now) × (j < length products.now) × (j < length list.now) × Fits records.old position (list_steps bit j b (at extended.now) (at products.now) (at list.now)) }
-    ensures { Recorded records.old position (list_steps bit j b (at extended.now) (at products.now) (at list.now)) records.new result }
+)
+    requires { (j < 8) × (j < length extended.now) × (j < length products.now) × (j < length list.now) × FitsIn out.old (list_steps bit j b (at extended.now) (at products.now) (at list.now)) }
+    ensures { RecordedBy out.old (list_steps bit j b (at extended.now) (at products.now) (at list.now)) out.new }
 {
     let round = (j + 1) as u8;
-    let first = records::write_record(records, position, bit, round, round, 0, b);
-    let second = records::write_group(records, first, bit, round, 1, j + 1, extended);
-    let third = records::write_group(records, second, bit, round, 2, j + 1, products);
-    records::write_group(records, third, bit, round, 3, j + 1, list)
-}
-
-// A list that steps 1 and 2 made, the position after their last word, and that behind their last record.
-#[derive(Drop)]
-pub struct Converted {
-    pub list: [Word; 8],
-    pub next: usize,
-    pub position: usize,
+    records::write_record(out, bit, round, round, Kind::Share, b);
+    records::write_group(out, bit, round, Kind::Extended, j + 1, extended);
+    records::write_group(out, bit, round, Kind::Product, j + 1, products);
+    records::write_group(out, bit, round, Kind::Converted, j + 1, list);
 }
 
 // Round j + 1, from the list for j shares, the j words at `start` and the next share b of the bit.
@@ -94,20 +88,18 @@ fn add_round(
     words: &[Word],
     start: usize,
     bit: u8,
-    records: &mut [u8],
-    position: usize,
-) -> Converted
-    requires { (j < 8) × (b < 2) × Modulus q × Below q j (at a) × Drawn q start j words.now × Fits records.old position (added_steps q bit j b (extend q j (at a) (after start (at words.now)))) }
-    ensures { Holds (j + 1) (xor_share q j (at a) (after start (at words.now)) b) result.list × (result.next ≡ start + j) × Recorded records.old position (added_steps q bit j b (extend q j (at a) (after start (at words.now)))) records.new result.position }
+    out: &mut Writer<'_>,
+) -> Unrefreshed
+    requires { (j < 8) × (b < 2) × Modulus q × Below q j (at a) × Drawn q start j words.now × FitsIn out.old (added_steps q bit j b (extend q j (at a) (after start (at words.now)))) }
+    ensures { Holds (j + 1) (xor_share q j (at a) (after start (at words.now)) b) result.list × (result.next ≡ start + j) × RecordedBy out.old (added_steps q bit j b (extend q j (at a) (after start (at words.now)))) out.new }
 {
     let extended = extend(a, j, q, words, start);
     let products = multiply(extended, j + 1, b, q);
     let list = xor_bit(extended, j + 1, b, q);
-    let end = write_round(records, position, bit, j, b, &extended, &products, &list);
-    Converted {
-        list: list,
+    write_round(out, bit, j, b, &extended, &products, &list);
+    Unrefreshed {
+        list,
         next: start + j,
-        position: end,
     }
 }
 
@@ -120,22 +112,17 @@ pub fn convert_steps(
     words: &[Word],
     start: usize,
     bit: u8,
-    records: &mut [u8],
-    position: usize,
-) -> Converted
-    requires { (1 ≤ j) × (j ≤ 8) × Below 2 j (at bits.now) × Modulus q × Drawn q start (pairs j) words.now × Fits records.old position (across j (round_steps q bit (at bits.now) (after start (at words.now)))) }
-    ensures { Holds j (convert q j (at bits.now) (after start (at words.now))) result.list × (result.next ≡ start + pairs j) × Recorded records.old position (across j (round_steps q bit (at bits.now) (after start (at words.now)))) records.new result.position }
+    out: &mut Writer<'_>,
+) -> Unrefreshed
+    requires { (1 ≤ j) × (j ≤ 8) × Below 2 j (at bits.now) × Modulus q × Drawn q start (pairs j) words.now × FitsIn out.old (across j (round_steps q bit (at bits.now) (after start (at words.now)))) }
+    ensures { Holds j (convert q j (at bits.now) (after start (at words.now))) result.list × (result.next ≡ start + pairs j) × RecordedBy out.old (across j (round_steps q bit (at bits.now) (after start (at words.now)))) out.new }
 {
     if j == 1 {
         let list = conversion::one_share(bits[0]);
-        let end = records::write_record(records, position, bit, 1, 1, 0, bits[0]);
-        return Converted {
-            list: list,
-            next: start,
-            position: end,
-        };
+        records::write_record(out, bit, 1, 1, Kind::Share, bits[0]);
+        return Unrefreshed { list, next: start };
     }
-    add_share_steps(bits, j - 1, q, words, start, bit, records, position)
+    add_share_steps(bits, j - 1, q, words, start, bit, out)
 }
 
 // The same for j + 1 shares: the first j are converted first, and the next round takes its words from where they end.
@@ -148,14 +135,12 @@ fn add_share_steps(
     words: &[Word],
     start: usize,
     bit: u8,
-    records: &mut [u8],
-    position: usize,
-) -> Converted
-    requires { (1 ≤ j) × (j < 8) × Below 2 (j + 1) (at bits.now) × Modulus q × Drawn q start (pairs (j + 1)) words.now × Fits records.old position (across (j + 1) (round_steps q bit (at bits.now) (after start (at words.now)))) }
-    ensures { Holds (j + 1) (convert q (j + 1) (at bits.now) (after start (at words.now))) result.list × (result.next ≡ start + pairs (j + 1)) × Recorded records.old position (across (j + 1) (round_steps q bit (at bits.now) (after start (at words.now)))) records.new result.position }
+    out: &mut Writer<'_>,
+) -> Unrefreshed
+    requires { (1 ≤ j) × (j < 8) × Below 2 (j + 1) (at bits.now) × Modulus q × Drawn q start (pairs (j + 1)) words.now × FitsIn out.old (across (j + 1) (round_steps q bit (at bits.now) (after start (at words.now)))) }
+    ensures { Holds (j + 1) (convert q (j + 1) (at bits.now) (after start (at words.now))) result.list × (result.next ≡ start + pairs (j + 1)) × RecordedBy out.old (across (j + 1) (round_steps q bit (at bits.now) (after start (at words.now)))) out.new }
 {
     let b = bits[j];
-    let first = convert_steps(bits, j, q, &words[..], start, bit, records, position);
-    let a = first.list;
-    add_round(a, j, b, q, words, first.next, bit, records, first.position)
+    let first = convert_steps(bits, j, q, &words[..], start, bit, out);
+    add_round(first.list, j, b, q, words, first.next, bit, out)
 }

@@ -10,7 +10,8 @@ use Rattle.residue.specs.Residue.{EachBelow}
 use Rattle.buffers.specs.Overwrite.{overwrite}
 use Rattle.buffers.specs.Laws.{overwrite-none, overwrite-append, length-overwrite}
 use Rattle.text.specs.Ascii.{ascii}
-use Rattle.text.specs.Text.{digits, decimal, signed, spaced, line, Wrote}
+use Rattle.text.specs.declared.Writer.{Writer}
+use Rattle.text.specs.Text.{digits, decimal, signed, spaced, line, Wrote, HasRoom, Written}
 
 -- ---- what was written
 
@@ -33,6 +34,21 @@ pub wrote_byte : (t : List ℕ) (a : ℕ) (p : List ℕ) {u : List ℕ} {b : ℕ
 wrote_byte t a p {u} {b} v h w =
     let l = wrote-length t a p (omega arith) w in
     wrote_then t a p (v ∷ []) w (overwrite_byte u b v (omega arith), refl)
+
+-- ---- what a writer wrote
+
+pub written_nothing : (w : Writer) → Written w [] w
+written_nothing w = record { wrote = wrote_nothing w.text.now w.end; same = refl }
+
+pub written_then : {w u v : Writer} {p r : List ℕ} → Written w p u → Written u r v → Written w (p ++ r) v
+written_then {w} {p = p} {r = r} h g = record { wrote = wrote_then w.text.now w.end p r h.wrote g.wrote; same = g.same ∙ h.same }
+
+-- a piece of a longer text
+pub room_left : {w u : Writer} (p r s : List ℕ) → length p + length r ≤ length s → HasRoom w s → Written w p u → HasRoom u r
+room_left {w} p r s m l h = omega (arith, h.wrote, wrote-length w.text.now w.end p (omega arith) h.wrote)
+
+pub room_behind : {w u : Writer} (p r : List ℕ) → HasRoom w (p ++ r) → Written w p u → HasRoom u r
+room_behind p r = room_left p r (p ++ r) (omega (arith, length-append p r))
 
 -- ---- decimal numbers
 

@@ -1,72 +1,74 @@
-// Writing text. Each function writes from a position on and answers the position behind what it wrote.
+// Writing text into a buffer.
 #![tactic(auto)]
 
-ghost use Rattle.std.specs.Prelude.{map, ◌++◌, ◌+◌, ◌≤◌, length};
+ghost use Rattle.std.specs.Prelude.{◌≡◌, map, ◌++◌};
 ghost use Rattle.text.specs.Ascii.{ascii};
-ghost use Rattle.text.specs.Text.{decimal, signed, spaced, Wrote};
+ghost use Rattle.text.specs.Text.{decimal, signed, spaced, HasRoom, Written};
 
 use residue::Word;
 
-pub fn write_bytes(text: &mut [u8], at: usize, bytes: &[u8]) -> usize
-    requires { at + length bytes.now ≤ length text.old }
-    ensures { Wrote text.old at bytes.now text.new result }
-{
-    for i in 0..bytes.len() {
-        text[at + i] = bytes[i];
+// A buffer, and the position behind what was written to it.
+#[derive(Drop)]
+pub struct Writer<'a> {
+    pub text: &'a mut [u8],
+    pub end: usize,
+}
+
+impl<'a> Writer<'a> {
+    pub fn bytes(&mut self, bytes: &[u8])
+        requires { HasRoom self.old bytes.now }
+        ensures { Written self.old bytes.now self.new }
+    {
+        buffers::copy(self.text, self.end, bytes);
+        self.end += bytes.len();
     }
-    at + bytes.len()
-}
 
-pub fn write_decimal(text: &mut [u8], at: usize, value: usize) -> usize
-    requires { at + length (decimal value) ≤ length text.old }
-    ensures { Wrote text.old at (decimal value) text.new result }
-{
-    let mut last = at;
-    if value >= 10 {
-        last = write_decimal(text, at, value / 10);
+    pub fn decimal(&mut self, value: usize)
+        requires { HasRoom self.old (decimal value) }
+        ensures { Written self.old (decimal value) self.new }
+    {
+        if value >= 10 {
+            self.decimal(value / 10);
+        }
+        self.bytes(&[48 + (value % 10) as u8]);
     }
-    text[last] = 48 + (value % 10) as u8;
-    last + 1
-}
 
-// A number behind a space.
-pub fn write_field(text: &mut [u8], at: usize, value: usize) -> usize
-    requires { at + length (ascii " " ++ decimal value) ≤ length text.old }
-    ensures { Wrote text.old at (ascii " " ++ decimal value) text.new result }
-{
-    let start = write_bytes(text, at, b" ");
-    write_decimal(text, start, value)
-}
-
-// A number with a '-' before it where it is negative.
-pub fn write_signed(text: &mut [u8], at: usize, value: i32) -> usize
-    requires { at + length (signed value) ≤ length text.old }
-    ensures { Wrote text.old at (signed value) text.new result }
-{
-    if value < 0 {
-        let start = write_bytes(text, at, b"-");
-        return write_decimal(text, start, residue::magnitude(value) as usize);
+    // A number behind a space.
+    pub fn field(&mut self, value: usize)
+        requires { HasRoom self.old (ascii " " ++ decimal value) }
+        ensures { Written self.old (ascii " " ++ decimal value) self.new }
+    {
+        self.bytes(b" ");
+        self.decimal(value);
     }
-    write_decimal(text, at, residue::magnitude(value) as usize)
-}
 
-// The same behind a space.
-pub fn write_signed_field(text: &mut [u8], at: usize, value: i32) -> usize
-    requires { at + length (ascii " " ++ signed value) ≤ length text.old }
-    ensures { Wrote text.old at (ascii " " ++ signed value) text.new result }
-{
-    let behind = write_bytes(text, at, b" ");
-    write_signed(text, behind, value)
-}
-
-// Words, each behind a space. Printing compares and divides them: it is for what is shown.
-pub fn write_words(text: &mut [u8], at: usize, words: &[Word]) -> usize
-    requires { at + length (spaced (map decimal words.now)) ≤ length text.old }
-    ensures { Wrote text.old at (spaced (map decimal words.now)) text.new result }
-{
-    let mut end = at;
-    for i in 0..words.len() {
-        end = write_field(text, end, residue::to_usize(words[i]));
+    // A number with a '-' before it where it is negative.
+    pub fn signed(&mut self, value: i32)
+        requires { HasRoom self.old (signed value) }
+        ensures { Written self.old (signed value) self.new }
+    {
+        if value < 0 {
+            self.bytes(b"-");
+        }
+        self.decimal(residue::magnitude(value) as usize);
     }
-    end
+
+    // The same behind a space.
+    pub fn signed_field(&mut self, value: i32)
+        requires { HasRoom self.old (ascii " " ++ signed value) }
+        ensures { Written self.old (ascii " " ++ signed value) self.new }
+    {
+        self.bytes(b" ");
+        self.signed(value);
+    }
+
+    // Words, each behind a space. Printing compares and divides them: it is for what is shown.
+    pub fn words(&mut self, words: &[Word])
+        requires { HasRoom self.old (spaced (map decimal words.now)) }
+        ensures { Written self.old (spaced (map decimal words.now)) self.new }
+    {
+        for word in words {
+            self.field(residue::to_usize(*word));
+        }
+    }
 }

@@ -18,9 +18,9 @@ pub fn add_row(row: &[Word; 8], n: usize, q: Word, negative: bool, work: &mut [W
     ensures { work.new ≡ overwrite work.old 0 (table n (with_row q negative work.old (at row.now))) }
 {
     let modulus = residue::widen(q);
-    for i in 0..n {
+    for (i, word) in row[..n].iter().enumerate() {
         let total = residue::widen(work[i]);
-        let share = residue::widen(row[i]);
+        let share = residue::widen(*word);
         let other = if negative { share } else { modulus - share };
         work[i] = residue::narrow(residue::sub(total, other, modulus), q);
     }
@@ -56,6 +56,7 @@ pub fn move_totals(work: &mut [Word], n: usize, out: &mut [Word])
     requires { (n ≤ length work.old) × (n ≤ length out.old) }
     ensures { (work.new ≡ overwrite work.old 0 (table n (λ i. 0))) × (out.new ≡ overwrite out.old 0 (table n (at work.old))) }
 {
+    // One loop: a copy and a fill of n words are two calls of the system's.
     for i in 0..n {
         out[i] = work[i];
         work[i] = 0;

@@ -1,5 +1,5 @@
 -- What holds of every call.
-use Rattle.std.specs.Prelude.{◌≡◌, refl, List, [], ℕ, ◌<◌, take, drop}
+use Rattle.std.specs.Prelude.{◌≡◌, refl, List, [], ℕ, ◌<◌, take, drop, is_none}
 use Rattle.std.proofs.Math.Path.{sym, ap}
 use Rattle.std.proofs.Common.{◌∙◌, le_refl, arith, le-leb, eq-eqb, take-take}
 use Rattle.std.proofs.Math.Nat.{mul-le-mul}
@@ -8,7 +8,7 @@ use Rattle.residue.specs.Residue.{reduce, total, EachBelow}
 use Rattle.residue.proofs.Sum.{sum_cong, sum_list}
 use Rattle.buffers.specs.Positions.{at, table, after, Same}
 use Rattle.buffers.specs.PositionLaws.{length-table, table_at, table_below, table_same, take_same}
-use Rattle.checks.specs.Checks.{accepted, verdict, is_none}
+use Rattle.checks.specs.Checks.{accepted, verdict}
 use Rattle.checks.specs.Laws.{Hold, accepts, each-below-none}
 use Rattle.masking.specs.Sharing.{xor_all, open_string_checks, opened_string, open_residue_checks, opened_residue}
 use Rattle.conversion.specs.Conversion.{value_words, string_checks, value_checks}

@@ -1,7 +1,7 @@
 -- Facts of the code's steps.
 use mathlib.Core.Path.{◌≡◌, refl, sym, ap, ap₂, ◌∙◌}
 use mathlib.Core.List.{List}
-use Prim.Native.Nat.{ℕ, ◌+◌, ◌-◌, ◌*◌, ◌≤◌, ◌<◌}
+use Prim.Native.Nat.{ℕ, ◌+◌, ◌-◌, ◌≤◌, ◌<◌}
 use native.Mathlib.Omega.{arith}
 use Rattle.buffers.specs.Overwrite.{overwrite}
 use Rattle.buffers.specs.Positions.{at, table, Same, Below}
@@ -14,12 +14,6 @@ use Rattle.values.proofs.Doubling.{binary_lt, upper, upper-none, upper-next, upp
 -- what becomes of n totals
 abbrev pub doubled_of : ℕ → ℕ → List ℕ → List ℕ → List ℕ
 doubled_of n q totals row = table n (λ t. doubled q (at totals t) (at row t))
-
--- a block before block t
-pub block-before : (t c : ℕ) → 0 < t → (t - 1) * c + c ≡ t * c
-block-before t c h =
-    let e : t ≡ (t - 1) + 1 = omega arith in
-    sym (ap (λ (s : ℕ). s * c) e ∙ omega arith)
 
 module _ (q n k : ℕ) (x w : ℕ → ℕ) where
   -- the shares of the bits from t on

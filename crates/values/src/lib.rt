@@ -12,7 +12,7 @@ ghost use Rattle.values.specs.Values.{value_share, converted_value};
 ghost use Rattle.values.specs.Doubling.{doubled};
 ghost use Rattle.values.specs.Secrecy.{ValueSecrecy};
 
-use checks::{Answer, Checked};
+use checks::Refusal;
 use residue::Word;
 
 // Each of the n totals doubled, and the row's share added. Eight turns whatever n is, so that the loop can be unrolled.
@@ -46,19 +46,14 @@ pub fn write_value(
     ensures { (out.new ≡ overwrite out.old 0 (table n (value_share q n k (at shares.now) (after start (at words.now))))) × (result ≡ start + value_words n k) }
 {
     let per = n * (n - 1);
-    let end = start + k * per;
     let mut row: [Word; 8] = [0; 8];
-    let mut p = end;
-    let mut t = k;
     buffers::zero(out, n);
-    while t > 0 {
-        t -= 1;
-        p -= per;
+    for t in (0..k).rev() {
         let bits = conversion::bits_at(shares, t);
-        conversion::convert_at(&bits, n, q, words, p, &mut row);
+        conversion::convert_at(&bits, n, q, words, start + t * per, &mut row);
         double_and_add(&row, n, q, out);
     }
-    end
+    start + k * per
 }
 
 // Converts a shared string of k bits to n shares modulo q whose residue is the string's number modulo q, with the first kn(n - 1) words, and
@@ -71,14 +66,12 @@ pub fn convert_value(
     shares: &[u16],
     words: &[Word],
     out: &mut [Word],
-) -> Answer
+) -> Result<usize, Refusal>
     ensures out_after { outcome result out.new ≡ converted_value n k q shares.now words.now out.old }
     ensures secrecy { ValueSecrecy n k q }
 {
-    if let Checked::Failed(r) = conversion::check_value(n, k, q, shares, words, 0, out.len()) {
-        return Answer::Refused(r);
-    }
+    conversion::check_value(n, k, q, shares, words, 0, out.len())?;
     let mut array = [0u16; 8];
     buffers::copy_eight(&mut array, shares);
-    Answer::Done(write_value(n, k, q, &array, words, 0, out))
+    Ok(write_value(n, k, q, &array, words, 0, out))
 }

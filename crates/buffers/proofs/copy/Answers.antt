@@ -1,25 +1,11 @@
-use mathlib.Core.Path.{refl, ◌∙◌}
-use Prim.Native.Nat.{◌+◌}
+use mathlib.Core.Path.{refl, sym, ◌∙◌}
 use native.Mathlib.Omega.{arith}
-use lib.ListN.{length-set}
-use Rattle.buffers.specs.Laws.{written_none, written_next, written_all}
+use Rattle.std.proofs.lemmas.Slice.{put_mid-paste}
+use Rattle.buffers.specs.Laws.{overwrite_pastes}
 use Rattle.buffers.proofs.copy.Goals as goal
 
-pub loop-i-init : goal.loop-i-init
-loop-i-init c = (omega arith, refl, written_none c.args.to.now c.args.start c.args.from.now, refl)
-
-pub loop-i-preserved : goal.loop-i-preserved
-loop-i-preserved c =
-    let s = c.args in
-    let l = c.loop-i in (
-      omega arith,
-      refl,
-      written_next s.to.now s.start s.from.now l.to l.i _ l.invariant.2 refl (omega arith) (omega arith),
-      length-set l.to (s.start + l.i) _ ∙ l.invariant.3,
-    )
-
 pub returns : goal.returns
-returns c =
-    let s = c.args in
-    let l = c.loop-i in
-    l.invariant.2 ∙ written_all s.to.now s.start s.from.now l.i (omega arith)
+returns g c =
+    let a = c.args in
+    put_mid-paste a.start _ a.to.now _ a.from.now _ c.copy_from_slice.ensures.after (omega arith) refl
+    ∙ sym (overwrite_pastes a.to.now a.start a.from.now)

@@ -1,9 +1,8 @@
-use mathlib.Core.Path.{refl, sym, ap, ◌∙◌}
+use mathlib.Core.Path.{refl, sym, ◌∙◌}
 use Prim.Native.Nat.{◌*◌, ◌<◌}
 use native.Mathlib.Nat.{zero-mul, add-zero, add_assoc}
 use native.Mathlib.Omega.{arith}
 use lib.ListN.{length}
-use Rattle.checks.specs.Answers.{found_reading}
 use Rattle.checks.specs.Laws.{search_begins}
 use Rattle.checks.proofs.Rows.{inside, passes, finds, row_ends, ends}
 use Rattle.checks.proofs.first_not_below.Goals as goal
@@ -53,7 +52,7 @@ bits-preserved c =
 pub returns-after-bits : goal.returns-after-bits
 returns-after-bits c =
     let l = c.bits in
-    ap found_reading l.invariant.1
+    l.invariant.1
     ∙ sym (ends c.args.q c.args.start c.args.bits c.args.per c.args.words.now c.requires l.b l.at l.invariant.0 c.bits-test.false l.invariant.3)
 
 pub returns-then-words-at : goal.returns-then-words-at

@@ -44,7 +44,7 @@ add_share-returns t c =
 pub convert-returns-then-j-eq1 : goal.convert-returns-then-j-eq1
 convert-returns-then-j-eq1 t c =
     let e : pairs c.args.j ≡ 0 = pairs-few c.args.j (omega (arith, c.if-j-eq1.true)) in
-    (one_list _ _ _ _ _ _ c.if-j-eq1.true refl c.one_share-list.ensures, omega arith)
+    (one_list _ _ _ _ _ _ c.if-j-eq1.true refl c.one_share.ensures, omega arith)
 
 pub convert-add_share-requires : goal.convert-add_share-requires
 convert-add_share-requires t c =

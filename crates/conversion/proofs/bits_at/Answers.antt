@@ -5,14 +5,12 @@ use Rattle.conversion.specs.Arrays.{holds-next}
 use Rattle.conversion.proofs.bits_at.Goals as goal
 
 pub loop-i-init : goal.loop-i-init
-loop-i-init c = (omega arith, record { eight = refl; same = λ j l. absurd (omega arith) })
+loop-i-init c = record { eight = refl; same = λ j l. absurd (omega arith) }
 
 pub loop-i-preserved : goal.loop-i-preserved
-loop-i-preserved c =
-    let l = c.loop-i in
-    (omega arith, holds-next _ _ _ _ c.loop-i-test.true (c.from_u16.ensures ∙ and_mask _ 1) l.invariant.1)
+loop-i-preserved c = holds-next _ _ _ _ (omega arith) (c.from_u16.ensures ∙ and_mask _ 1) c.loop-i.invariant
 
 pub returns : goal.returns
 returns c =
     let e : c.loop-i.i ≡ 8 = omega arith in
-    rw e at c.loop-i.invariant.1
+    rw e at c.loop-i.invariant

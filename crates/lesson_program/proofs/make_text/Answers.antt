@@ -4,16 +4,13 @@ use Rattle.std.proofs.lemmas.List.{length-replicate}
 use Rattle.lesson.specs.Room.{room_le}
 use Rattle.lesson.specs.Text.{text_of}
 use Rattle.lesson_program.proofs.make_text.Goals as goal
-use Rattle.lesson_samples.specs.CallLaws.{never_refused, text_in_front}
+use Rattle.lesson_samples.specs.CallLaws.{text_unwrapped}
 use Rattle.lesson_samples.specs.Input.{text-of_input}
 
-pub returns-in-Done : goal.returns-in-Done
-returns-in-Done c =
-    let written = text-of_input text_of c.args.buffer.now c.args.count c.requires.past_limit _ _ (text_in_front _ _ _ _ _ _ _ _ _ c.write_text.ensures _ c.in-Done.is) in
-    record { of_input = written.0; in_text = written.1 }
-
-pub returns-clause-of_input : goal.returns-clause-of_input
-returns-clause-of_input c =
+pub returns : goal.returns
+returns c =
     let words : 1792 ≤ length c.args.words.now = omega (arith, ap length c.requires.zeros ∙ length-replicate {A = ℕ} 1792 0) in
     let room = room_le (length (take c.args.count c.args.buffer.now)) in
-    absurd (never_refused _ _ _ _ _ _ _ _ _ c.write_text.ensures record { word_room = words; share-room = omega arith; total-room = omega arith } (omega (arith, c.requires.text_room, room)) _ c.in_default.is)
+    let text = text_unwrapped _ _ _ _ _ _ _ _ _ c.write_text.ensures record { word_room = words; share-room = omega arith; total-room = omega arith } (omega (arith, c.requires.text_room, room)) in
+    let written = text-of_input text_of c.args.buffer.now c.args.count c.requires.past_limit _ _ (rw c.unwrap_or.ensures text) in
+    record { of_input = written.0; in_text = written.1 }

@@ -1,23 +1,27 @@
 -- Four pieces, one behind the other.
-use native.Mathlib.Omega.{arith}
-use Rattle.text.specs.Laws.{wrote_then}
-use Rattle.lesson_samples.specs.RefusalLaws.{refusal_line_lem, length_refusal_line}
+use Rattle.std.proofs.Common.{ℕ, ◌++◌}
+use Rattle.text.specs.Ascii.{ascii}
+use Rattle.text.specs.Text.{decimal}
+use Rattle.checks.specs.Answers.{code}
+use Rattle.lesson_samples.specs.RefusalLine.{refusal_line}
+use Rattle.lesson_samples.specs.RefusalLaws.{refusal_line_lem}
+use Rattle.text.proofs.Pieces.{Pieces, first, second, third, fourth, all}
 use Rattle.lesson_samples.proofs.write_refusal.Goals as goal
 
-pub write_bytes-a-requires : goal.write_bytes-a-requires
-write_bytes-a-requires c = omega (arith, rw length_refusal_line at c.requires)
+pieces : (code position : ℕ) → Pieces (refusal_line code position) (ascii "refused") (ascii " " ++ decimal code) (ascii " " ++ decimal position) (ascii "\n")
+pieces code position = record { split = refusal_line_lem code position }
 
-pub write_field-b-requires : goal.write_field-b-requires
-write_field-b-requires c = omega (arith, rw length_refusal_line at c.requires)
+pub bytes-requires : goal.bytes-requires
+bytes-requires c = first c.args.text.now (pieces (code c.args.refusal.reason) c.args.refusal.position) c.requires
 
-pub write_field-c-requires : goal.write_field-c-requires
-write_field-c-requires c = omega (arith, rw length_refusal_line at c.requires)
+pub field-requires : goal.field-requires
+field-requires c = rw c.from.ensures (second c.args.text.now (pieces (code c.args.refusal.reason) c.args.refusal.position) c.bytes.ensures c.requires)
 
-pub write_bytes-requires : goal.write_bytes-requires
-write_bytes-requires c = omega (arith, rw length_refusal_line at c.requires)
+pub field-requires-2 : goal.field-requires-2
+field-requires-2 c = third c.args.text.now (pieces (code c.args.refusal.reason) c.args.refusal.position) c.bytes.ensures (rw c.from.ensures at c.field.ensures) c.requires
+
+pub bytes-requires-2 : goal.bytes-requires-2
+bytes-requires-2 c = fourth c.args.text.now (pieces (code c.args.refusal.reason) c.args.refusal.position) c.bytes.ensures (rw c.from.ensures at c.field.ensures) c.field-2.ensures c.requires
 
 pub returns : goal.returns
-returns c =
-    rw refusal_line_lem (wrote_then _ _ _ _ c.write_bytes-a.ensures
-    (wrote_then _ _ _ _ c.write_field-b.ensures
-    (wrote_then _ _ _ _ c.write_field-c.ensures c.write_bytes.ensures)))
+returns c = all c.args.text.now (pieces (code c.args.refusal.reason) c.args.refusal.position) c.bytes.ensures (rw c.from.ensures at c.field.ensures) c.field-2.ensures c.bytes-2.ensures

@@ -1,10 +1,8 @@
--- The sum of the first t words.
+-- The sum of the words before this one.
 use mathlib.Core.Path.{◌≡◌}
-use Prim.Native.Nat.{◌≤◌}
-use lib.ListN.{length}
 use Rattle.residue.specs.Residue.{sum}
 use Rattle.buffers.specs.Positions.{at}
 use Rattle.masking.proofs.sum_all.Given as goal
 
-abbrev pub invariant-loop-t : goal.invariant-loop-t
-invariant-loop-t l = (l.t ≤ l.t-end) × (l.t-end ≡ length l.list) × (l.sum ≡ sum l.q l.t (at l.list))
+abbrev pub invariant-loop-word : goal.invariant-loop-word
+invariant-loop-word l = l.sum ≡ sum l.q l.word-index (at l.list)

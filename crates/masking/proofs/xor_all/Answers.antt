@@ -18,17 +18,17 @@ none l = refl
 next : (l : List ℕ) (i : ℕ) → i < length l → bit_xor (xor_all (take i l)) (at l i) ≡ xor_all (take (i + 1) l)
 next l i h = rw (add-one i, take-suc l i 0 h, xor_all-append, xor_all-one)
 
-pub loop-i-init : goal.loop-i-init
-loop-i-init c = (omega arith, refl, none c.args.list.now)
+pub loop-share-init : goal.loop-share-init
+loop-share-init c = none c.args.list.now
 
-pub loop-i-preserved : goal.loop-i-preserved
-loop-i-preserved c =
+pub loop-share-preserved : goal.loop-share-preserved
+loop-share-preserved c =
     let l = c.args.list.now in
-    let r = c.loop-i in
-    (omega arith, refl, ap (λ (x : ℕ). bit_xor x (at l r.i)) r.invariant.2 ∙ next l r.i (omega arith))
+    let r = c.loop-share in
+    ap (λ (x : ℕ). bit_xor x (at l r.share-index)) r.invariant ∙ next l r.share-index (omega arith)
 
 pub returns : goal.returns
 returns c =
     let l = c.args.list.now in
-    let r = c.loop-i in
-    r.invariant.2 ∙ ap xor_all (take_all r.i l (omega arith))
+    let r = c.loop-share in
+    r.invariant ∙ ap xor_all (take_all r.share-index l (omega arith))

@@ -1,9 +1,8 @@
--- The XOR of the first i words.
+-- The XOR of the shares before this one.
 use mathlib.Core.Path.{◌≡◌}
-use Prim.Native.Nat.{◌≤◌}
-use lib.ListN.{length, take}
+use lib.ListN.{take}
 use Rattle.masking.specs.Sharing.{xor_all}
 use Rattle.masking.proofs.xor_all.Given as goal
 
-abbrev pub invariant-loop-i : goal.invariant-loop-i
-invariant-loop-i l = (l.i ≤ l.i-end) × (l.i-end ≡ length l.list) × (l.all ≡ xor_all (take l.i l.list))
+abbrev pub invariant-loop-share : goal.invariant-loop-share
+invariant-loop-share l = l.all ≡ xor_all (take l.share-index l.list)

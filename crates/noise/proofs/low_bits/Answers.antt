@@ -1,11 +1,10 @@
 -- A mask of k ones keeps the remainder by 2 ^ k.
 use mathlib.Core.Path.{◌≡◌, ◌∙◌}
 use Prim.Native.Nat.{ℕ, ◌-◌, ◌*◌, ◌%◌, ◌^◌, ◌≤◌, ◌<◌}
-use native.Mathlib.Nat as N
 use native.Mathlib.Nat.{mod-eq_of_lt}
 use native.Mathlib.Omega.{arith}
 use lib.Bits.{bit_and, and_mask}
-use lib.Pow.{pow_mono, pow_pos}
+use lib.Pow.{pow_mono}
 use Rattle.noise.proofs.low_bits.Goals as goal
 
 module _ (k : ℕ) (h : k ≤ 3) where
@@ -16,12 +15,6 @@ module _ (k : ℕ) (h : k ≤ 3) where
 
   masked : (v : ℕ) → bit_and v (1 * 2 ^ k % 4294967296 - 1) ≡ v % 2 ^ k
   masked v = rw power (and_mask v k)
-
-pub overflow_sub-result : goal.overflow_sub-result
-overflow_sub-result c = rw (power c.args.k c.requires) (pow_pos c.args.k)
-
-pub overflow_cast-result-2 : goal.overflow_cast-result-2
-overflow_cast-result-2 c = let v = c.args.group in omega (arith, masked c.args.k c.requires v, N.mod-lt v (pow_pos c.args.k), pow_mono c.requires)
 
 pub returns : goal.returns
 returns c = masked c.args.k c.requires c.args.group

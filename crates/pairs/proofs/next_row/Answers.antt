@@ -18,18 +18,18 @@ unfolding overwrite
 between s e = rw e
 
 pub loop-j-init : goal.loop-j-init
-loop-j-init c = (omega arith, written_none _ _ _)
+loop-j-init c = written_none _ _ _
 
 pub loop-j-preserved : goal.loop-j-preserved
 loop-j-preserved c =
     let l = c.loop-j in
     let r = c.args.row in
     let m = length-table 33 (next_entry (at r)) in
-    (omega arith, written_next (replicate 35 0) 1 (inner r) l.next l.j _ l.invariant.1 (table_at 33 (next_entry (at r)) l.j c.loop-j-test.true) (omega (arith, length-replicate {A = ℕ} 35 0)) (omega arith))
+    written_next (replicate 35 0) 1 (inner r) l.next l.j _ l.invariant (table_at 33 (next_entry (at r)) l.j c.loop-j-test.true) (omega (arith, length-replicate {A = ℕ} 35 0)) (omega arith)
 
 pub returns : goal.returns
 returns c =
     let l = c.loop-j in
     let r = c.args.row in
     let m = length-table 33 (next_entry (at r)) in
-    l.invariant.1 ∙ written_all (replicate 35 0) 1 (inner r) l.j (omega arith) ∙ between (inner r) m
+    l.invariant ∙ written_all (replicate 35 0) 1 (inner r) l.j (omega arith) ∙ between (inner r) m

@@ -16,27 +16,27 @@ use Rattle.polynomial.specs.Polynomial.{polynomial_words, strings_checks, sample
 use Rattle.polynomial.specs.Accepted.{SharedStrings, first-pair, call-strings}
 use Rattle.polynomial.specs.SecrecyProof.{secrecy}
 use Rattle.polynomial.proofs.sample_polynomial.Goals as goal
-use Rattle.polynomial.proofs.sample_polynomial.Goals.{In_default}
+use Rattle.polynomial.proofs.sample_polynomial.Goals.{In_ok-check_polynomial}
 
-strings : (c : In_default) → let a = c.args in SharedStrings a.n a.k a.q a.m a.x.now a.y.now
-strings c = let a = c.args in call-strings _ _ _ _ _ _ _ a.out.now a.work.now ((checks-hold _ _ c.check_polynomial.ensures c.in_default.is))
+strings : (c : In_ok-check_polynomial) → let a = c.args in SharedStrings a.n a.k a.q a.m a.x.now a.y.now
+strings c = let a = c.args in call-strings _ _ _ _ _ _ _ a.out.now a.work.now ((checks-hold _ _ c.check_polynomial.ensures c.in_ok-check_polynomial.was))
 
-drawn : (c : In_default) → let a = c.args in Drawn a.q 0 (polynomial_words a.n a.k a.m) a.words.now
-drawn c = let a = c.args in fit_drawn (strings_checks a.n a.k a.q a.m a.x.now a.y.now) _ _ _ _ _ _ a.out.now a.work.now ((checks-hold _ _ c.check_polynomial.ensures c.in_default.is))
+drawn : (c : In_ok-check_polynomial) → let a = c.args in Drawn a.q 0 (polynomial_words a.n a.k a.m) a.words.now
+drawn c = let a = c.args in fit_drawn (strings_checks a.n a.k a.q a.m a.x.now a.y.now) _ _ _ _ _ _ a.out.now a.work.now ((checks-hold _ _ c.check_polynomial.ensures c.in_ok-check_polynomial.was))
 
-room : (c : In_default) → let a = c.args in Room (a.m * a.n) a.n a.out.now a.work.now
-room c = let a = c.args in fit-room (strings_checks a.n a.k a.q a.m a.x.now a.y.now) 0 (polynomial_words a.n a.k a.m) a.q a.words.now _ _ a.out.now a.work.now ((checks-hold _ _ c.check_polynomial.ensures c.in_default.is))
+room : (c : In_ok-check_polynomial) → let a = c.args in Room (a.m * a.n) a.n a.out.now a.work.now
+room c = let a = c.args in fit-room (strings_checks a.n a.k a.q a.m a.x.now a.y.now) 0 (polynomial_words a.n a.k a.m) a.q a.words.now _ _ a.out.now a.work.now ((checks-hold _ _ c.check_polynomial.ensures c.in_ok-check_polynomial.was))
 
-pub returns-in-Failed : goal.returns-in-Failed
+pub returns-in_err-check_polynomial : goal.returns-in_err-check_polynomial
 unfolding sampled_polynomial
-returns-in-Failed c = record { work_after = settles_refused _ _ c.check_polynomial.ensures _ _ _ _ c.in-Failed.is; secrecy = secrecy _ _ _ _ }
+returns-in_err-check_polynomial c = record { work_after = settles_refused _ _ c.check_polynomial.ensures _ _ _ _ c.in_err-check_polynomial.was c.from_residual.ensures.1; secrecy = secrecy _ _ _ _ }
 
 pub zero-requires : goal.zero-requires
-zero-requires c = ((first-pair (strings (goal.at.zero-requires c).In_default)).eight, (room (goal.at.zero-requires c).In_default).1)
+zero-requires c = ((first-pair (strings (goal.at.zero-requires c).In_ok-check_polynomial)).eight, (room (goal.at.zero-requires c).In_ok-check_polynomial).1)
 
 pub write_coefficients-requires : goal.write_coefficients-requires
 write_coefficients-requires c =
-    let S = strings (goal.at.write_coefficients-requires c).In_default in
+    let S = strings (goal.at.write_coefficients-requires c).In_ok-check_polynomial in
     let p = first-pair S in (
       p.two,
       p.eight,
@@ -44,9 +44,9 @@ write_coefficients-requires c =
       record { large = pair-large p; small = omega arith },
       S.x-count,
       S.y-count,
-      drawn (goal.at.write_coefficients-requires c).In_default,
-      (room (goal.at.write_coefficients-requires c).In_default).0,
-      (let r = (room (goal.at.write_coefficients-requires c).In_default).1 in search rules),
+      drawn (goal.at.write_coefficients-requires c).In_ok-check_polynomial,
+      (room (goal.at.write_coefficients-requires c).In_ok-check_polynomial).0,
+      (let r = (room (goal.at.write_coefficients-requires c).In_ok-check_polynomial).1 in search rules),
       (λ i h. ap (λ (l : List ℕ). at l i) c.zero.ensures ∙ front-zeros _ _ i h),
     )
 
@@ -56,6 +56,6 @@ returns c =
     let a = c.args in
     let e = c.write_coefficients.ensures in record {
       work_after = answered e.2 e.0 (e.1 ∙ c.zero.ensures)
-          ∙ settles_accepted _ _ c.check_polynomial.ensures (polynomial_words a.n a.k a.m) (both a.out.now a.work.now) _ c.in_default.is;
+          ∙ settles_accepted _ _ c.check_polynomial.ensures (polynomial_words a.n a.k a.m) (both a.out.now a.work.now) _ c.in_ok-check_polynomial.was;
       secrecy = secrecy _ _ _ _;
     }

@@ -18,12 +18,6 @@ write_sample-requires c =
       c.requires.10,
     )
 
-pub shape_of-out : goal.shape_of-out
-shape_of-out c = c.out-1.given.1
-
-pub shape_of-work : goal.shape_of-work
-shape_of-work c = c.work-1.given
-
 pub returns : goal.returns
 returns c =
     let a = c.args in

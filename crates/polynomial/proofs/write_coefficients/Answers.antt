@@ -44,12 +44,6 @@ loop-t-preserved c =
     let e = c.write_coefficient-p.ensures in
     (omega arith, coefficients_next _ _ _ _ _ _ _ _ _ _ l.invariant.1 e.0, e.1 ∙ l.invariant.2, omega (arith, e.2, l.invariant.3))
 
-pub shape_of-out : goal.shape_of-out
-shape_of-out c = out-length (goal.at.shape_of-out c).At-loop-t
-
-pub shape_of-work : goal.shape_of-work
-shape_of-work c = ap length c.loop-t.invariant.2
-
 pub returns : goal.returns
 returns c =
     let l = c.loop-t in

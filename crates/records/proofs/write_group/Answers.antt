@@ -1,38 +1,23 @@
-use mathlib.Core.Path.{◌≡◌, refl, ◌∙◌}
-use mathlib.Core.List.{[], ◌∷◌}
-use native.Mathlib.Omega.{arith}
+use Rattle.std.proofs.Common.{◌<◌, arith, length-take}
+use Rattle.std.proofs.lemmas.List.{get_or-take}
 use Rattle.buffers.specs.Positions.{at}
-use Rattle.records.specs.Records.{Step, Fits}
-use Rattle.records.specs.Laws.{per_share-none, per_share-next, length-per_share, recorded_none, recorded_then, recorded_end, recorded_length}
+use Rattle.records.specs.Records.{code}
+use Rattle.records.specs.Laws.{per_share-none, per_share-next, length-per_share, records_none, records_then, fits_left}
 use Rattle.records.proofs.write_group.Goals as goal
-use Rattle.records.proofs.write_group.Goals.{In-loop-i}
-
--- for one record more
-room : (c : In-loop-i) (s : Step) → Fits c.loop-i.records c.loop-i.end (s ∷ [])
-room c s =
-    let a = c.args in
-    record { room = omega (arith, c.loop-i.invariant.2, c.loop-i.invariant.3, c.loop-i-test.true, c.requires.2.room, length-per_share a.bit a.round a.kind (at a.values.now) a.n) }
 
 pub loop-i-init : goal.loop-i-init
-loop-i-init c = (omega arith, rw per_share-none (recorded_none _ _), omega arith, refl)
+loop-i-init c = rw per_share-none (records_none _)
 
-pub write_record-end-requires : goal.write_record-end-requires
-write_record-end-requires c = room (goal.at.write_record-end-requires c).In-loop-i _
+pub write_record-requires : goal.write_record-requires
+write_record-requires c =
+    let a = c.args in
+    let i = c.loop-i.i in
+    let count = length-per_share a.bit a.round (code a.kind) (at a.values.now) in
+    fits_left _ _ _ (omega (arith, count i, count a.n, c.loop-i-test.true, length-take a.n a.values.now)) c.requires.2 c.loop-i.invariant
 
 pub loop-i-preserved : goal.loop-i-preserved
 loop-i-preserved c =
-    let l = c.loop-i in
     let a = c.args in
-    let w = c.write_record-end.ensures in
-    let e = recorded_end _ _ _ w in (
-      omega arith,
-      rw (per_share-next a.bit a.round a.kind (at a.values.now) l.i) (recorded_then _ _ _ _ l.invariant.1 w),
-      omega (arith, l.invariant.2),
-      recorded_length _ _ _ (room (goal.at.loop-i-preserved c).In-loop-i _) w ∙ l.invariant.3,
-    )
-
-pub returns : goal.returns
-returns c =
-    let a = c.args in
-    let e : c.loop-i.i ≡ a.n = omega arith in
-    rw e at c.loop-i.invariant.1
+    let i = c.loop-i.i in
+    let l : i < a.n = omega (arith, length-take a.n a.values.now) in
+    rw (per_share-next a.bit a.round (code a.kind) (at a.values.now) i) (records_then _ _ c.loop-i.invariant (rw (get_or-take a.n a.values.now i 0 l) at c.write_record.ensures))

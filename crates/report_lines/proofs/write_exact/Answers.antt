@@ -1,30 +1,28 @@
 -- Nothing, or two fields, one behind the other.
-use mathlib.Core.Path.{ap, ◌∙◌}
-use Prim.Native.Nat.{◌+◌, ◌^◌, ◌≤◌}
-use native.Mathlib.Omega.{arith}
-use lib.ListN.{length}
-use Rattle.text.specs.Text.{decimal, spaced}
-use Rattle.text.specs.Laws.{spaced-none, wrote_nothing, wrote_then}
-use Rattle.report_lines.specs.Lines.{exact_fields}
-use Rattle.report_lines.specs.Laws.{exact_pieces, length_exact}
+use Rattle.std.proofs.Common.{◌++◌, ◌^◌, arith, length-append}
+use Rattle.text.specs.Ascii.{ascii}
+use Rattle.text.specs.Text.{decimal, HasRoom}
+use Rattle.text.specs.Laws.{spaced-none, room_behind, written_nothing, written_then}
+use Rattle.report_lines.specs.Laws.{exact_pieces}
 use Rattle.report_lines.proofs.write_exact.Goals as goal
-use Rattle.report_lines.proofs.write_exact.Goals.{Else-mixed}
+use Rattle.report_lines.proofs.write_exact.Goals.{Then-not-mixed}
 
--- what is required, by the pieces' lengths
-room : (c : Else-mixed) → let a = c.args in a.at + (2 + length (decimal a.ways) + length (decimal (4 ^ a.k))) ≤ length a.text.now
-room c =
-    omega (arith, c.requires.1, ap (λ m. length (spaced (exact_fields m c.args.ways (4 ^ c.args.k)))) c.if-mixed.false ∙ length_exact c.args.ways (4 ^ c.args.k))
+-- what is required, by the pieces
+room : (c : Then-not-mixed) → HasRoom c.args.out.now ((ascii " " ++ decimal c.args.ways) ++ (ascii " " ++ decimal (4 ^ c.args.k)))
+room c = rw (c.if-not-mixed.true, exact_pieces) at c.requires.1
 
-pub returns-then-mixed : goal.returns-then-mixed
-returns-then-mixed c = rw (c.if-mixed.true, spaced-none) (wrote_nothing _ _)
+pub field-requires : goal.field-requires
+field-requires c = omega (arith, room (goal.at.field-requires c).Then-not-mixed, length-append (ascii " " ++ decimal c.args.ways) (ascii " " ++ decimal (4 ^ c.args.k)))
 
-pub write_field-next-requires : goal.write_field-next-requires
-write_field-next-requires c = omega (arith, room (goal.at.write_field-next-requires c).Else-mixed)
+pub field-requires-then-not-mixed : goal.field-requires-then-not-mixed
+field-requires-then-not-mixed c =
+    rw c.power_of_four.ensures
+    (room_behind (ascii " " ++ decimal c.args.ways) (ascii " " ++ decimal (4 ^ c.args.k)) (room (goal.at.field-requires-then-not-mixed c).Then-not-mixed) c.field.ensures)
 
-pub write_field-requires : goal.write_field-requires
-write_field-requires c = omega (arith, room (goal.at.write_field-requires c).Else-mixed, ap (λ p. length (decimal p)) c.power_of_four.ensures)
+pub returns-then-not-mixed : goal.returns-then-not-mixed
+returns-then-not-mixed c =
+    let w = rw c.power_of_four.ensures at c.field-then-not-mixed.ensures in
+    rw (c.if-not-mixed.true, exact_pieces) (written_then c.field.ensures w)
 
-pub returns : goal.returns
-returns c =
-    let w = rw c.power_of_four.ensures at c.write_field.ensures in
-    rw (c.if-mixed.false, exact_pieces) (wrote_then _ _ _ _ c.write_field-next.ensures w)
+pub returns-else-not-mixed : goal.returns-else-not-mixed
+returns-else-not-mixed c = rw (c.if-not-mixed.false, spaced-none) (written_nothing c.args.out.now)

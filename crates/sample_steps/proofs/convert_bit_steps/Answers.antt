@@ -8,7 +8,7 @@ use Rattle.conversion.specs.Conversion.{pairs, convert}
 use Rattle.conversion.proofs.Laws.{pairs-twice}
 use Rattle.conversion.specs.Arrays.{drawn_part}
 use Rattle.conversion.proofs.Lists.{holds-below, bit-done}
-use Rattle.records.specs.Laws.{recorded_then, fits-first, fits-rest}
+use Rattle.records.specs.Laws.{records_then, fits-first, fits_behind}
 use Rattle.steps.specs.Steps.{refresh_steps, convert_steps}
 use Rattle.steps.specs.Laws.{refresh_steps-same}
 use Rattle.sample_steps.proofs.convert_bit_steps.Goals as goal
@@ -31,17 +31,17 @@ convert_steps-first-requires c =
     let e = pairs-twice c.args.n in
     (c.requires.0, c.requires.1, c.requires.2, c.requires.3, drawn_part _ 0 _ (omega arith) (omega arith) c.requires.4, fits-first _ _ _ _ c.requires.5)
 
-pub refresh_steps-end-requires : goal.refresh_steps-end-requires
+pub refresh_steps-requires : goal.refresh_steps-requires
 unfolding convert_steps
-refresh_steps-end-requires c =
+refresh_steps-requires c =
     let l = c.convert_steps-first.ensures in
     let e = pairs-twice c.args.n in
     let h = c.requires.3.large in
-    (c.requires.1, c.requires.3, l.0.eight, holds-below _ _ _ _ _ (omega (arith, c.requires.2 0 c.requires.0)) l.0, drawn_part _ (pairs c.args.n) _ l.1 (omega arith) c.requires.4, rw (steps (goal.at.refresh_steps-end-requires c).After-convert_steps-first) (fits-rest _ _ _ _ c.requires.5 l.2))
+    (c.requires.1, c.requires.3, l.0.eight, holds-below _ _ _ _ _ (omega (arith, c.requires.2 0 c.requires.0)) l.0, drawn_part _ (pairs c.args.n) _ l.1 (omega arith) c.requires.4, rw (steps (goal.at.refresh_steps-requires c).After-convert_steps-first) (fits_behind _ _ c.requires.5 l.2))
 
 pub returns : goal.returns
 unfolding convert_steps
 returns c =
     let l = c.convert_steps-first.ensures in
-    let r = c.refresh_steps-end.ensures in
-    (record { eight = r.0; same = λ i h. ap (λ (f : ℕ → ℕ). f i) r.1 ∙ bit-done _ _ _ _ _ _ (behind (goal.at.returns c).After-convert_steps-first) l.0 i h }, recorded_then _ _ _ _ l.2 (rw (steps (goal.at.returns c).After-convert_steps-first) at r.2))
+    let r = c.refresh_steps.ensures in
+    (record { eight = r.0; same = λ i h. ap (λ (f : ℕ → ℕ). f i) r.1 ∙ bit-done _ _ _ _ _ _ (behind (goal.at.returns c).After-convert_steps-first) l.0 i h }, records_then _ _ l.2 (rw (steps (goal.at.returns c).After-convert_steps-first) at r.2))

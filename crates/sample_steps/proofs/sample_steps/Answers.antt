@@ -13,7 +13,7 @@ use Rattle.checks.specs.Checks.{Outcome}
 use Rattle.checks.specs.Laws.{Hold, hold-front, hold-rest}
 use Rattle.checks.proofs.Settles.{checks-hold, settles_accepted, settles_refused}
 use Rattle.checks.specs.Answers.{outcome}
-use Rattle.checks.specs.declared.Answer.TheVariants.{Done}
+use Rattle.std.specs.Prelude.{Ok}
 use Rattle.conversion.specs.Arrays.{Drawn}
 use Rattle.totals.specs.Sample.{sample_words}
 use Rattle.sampler.specs.Sampler.{Buffers, both, pair_checks, sample_checks, sampled}
@@ -27,21 +27,21 @@ use Rattle.steps.specs.Laws.{sample_steps-same}
 use Rattle.steps.specs.Count.{record_count_lem}
 use Rattle.sample_steps.specs.SampleSteps.{record_room, lists, steps_sampled}
 use Rattle.sample_steps.proofs.sample_steps.Goals as goal
-use Rattle.sample_steps.proofs.sample_steps.Goals.{After-write_steps, In_default}
+use Rattle.sample_steps.proofs.sample_steps.Goals.{After-write_steps, In_ok-check_steps}
 
 -- the checks of the sampler held, and 26
-sampling : (c : In_default) → let a = c.args in Hold (sample_checks a.n a.k a.q a.x.now a.y.now a.words.now 0 (length a.out.now) (length a.work.now))
+sampling : (c : In_ok-check_steps) → let a = c.args in Hold (sample_checks a.n a.k a.q a.x.now a.y.now a.words.now 0 (length a.out.now) (length a.work.now))
 sampling c =
     let a = c.args in
-    hold-front (sample_checks a.n a.k a.q a.x.now a.y.now a.words.now 0 (length a.out.now) (length a.work.now)) (record_room (record_count a.n a.k) (length a.records.now) ∷ []) (checks-hold _ _ c.check_steps.ensures c.in_default.is)
+    hold-front (sample_checks a.n a.k a.q a.x.now a.y.now a.words.now 0 (length a.out.now) (length a.work.now)) (record_room (record_count a.n a.k) (length a.records.now) ∷ []) (checks-hold _ _ c.check_steps.ensures c.in_ok-check_steps.was)
 
-bytes-room : (c : In_default) → let a = c.args in record_bytes * record_count a.n a.k ≤ length a.records.now
+bytes-room : (c : In_ok-check_steps) → let a = c.args in record_bytes * record_count a.n a.k ≤ length a.records.now
 bytes-room c =
     let a = c.args in
-    leb-true _ _ (hold-rest (sample_checks a.n a.k a.q a.x.now a.y.now a.words.now 0 (length a.out.now) (length a.work.now)) (record_room (record_count a.n a.k) (length a.records.now) ∷ []) (checks-hold _ _ c.check_steps.ensures c.in_default.is)).0
+    leb-true _ _ (hold-rest (sample_checks a.n a.k a.q a.x.now a.y.now a.words.now 0 (length a.out.now) (length a.work.now)) (record_room (record_count a.n a.k) (length a.records.now) ∷ []) (checks-hold _ _ c.check_steps.ensures c.in_ok-check_steps.was)).0
 
 -- what follows from the sampler's checks
-module _ (c : In_default) (h : let a = c.args in Hold (sample_checks a.n a.k a.q a.x.now a.y.now a.words.now 0 (length a.out.now) (length a.work.now))) where
+module _ (c : In_ok-check_steps) (h : let a = c.args in Hold (sample_checks a.n a.k a.q a.x.now a.y.now a.words.now 0 (length a.out.now) (length a.work.now))) where
   pair : let a = c.args in SharedPair a.n a.k a.q a.x.now a.y.now
   pair = let a = c.args in shared_pair _ _ _ _ _ (call-checks _ _ _ _ _ _ 0 a.out.now a.work.now h)
 
@@ -76,48 +76,48 @@ module _ (c : After-write_steps) (p : let a = c.args in SharedPair a.n a.k a.q a
       c.write_steps.ensures.2
       ∙ ap (λ (l : List Step). overwrite a.records.now 0 (bytes l)) (sample_steps-same a.q a.n a.k (pair-large p) _ (at a.x.now) _ (at a.y.now) (at a.words.now) (at a.words.now) x-front y-front (λ i l. refl))
 
-pub returns-in-Failed : goal.returns-in-Failed
+pub returns-in_err-check_steps : goal.returns-in_err-check_steps
 unfolding steps_sampled
-returns-in-Failed c = settles_refused _ _ c.check_steps.ensures _ _ _ _ c.in-Failed.is
+returns-in_err-check_steps c = settles_refused _ _ c.check_steps.ensures _ _ _ _ c.in_err-check_steps.was c.from_residual.ensures.1
 
 pub zero-requires : goal.zero-requires
-zero-requires c = ((pair (goal.at.zero-requires c).In_default (sampling (goal.at.zero-requires c).In_default)).eight, (room (goal.at.zero-requires c).In_default (sampling (goal.at.zero-requires c).In_default)).1)
+zero-requires c = ((pair (goal.at.zero-requires c).In_ok-check_steps (sampling (goal.at.zero-requires c).In_ok-check_steps)).eight, (room (goal.at.zero-requires c).In_ok-check_steps (sampling (goal.at.zero-requires c).In_ok-check_steps)).1)
 
 pub write_steps-requires : goal.write_steps-requires
 write_steps-requires c =
     let a = c.args in
-    let p = pair (goal.at.write_steps-requires c).In_default (sampling (goal.at.write_steps-requires c).In_default) in
-    let r = room (goal.at.write_steps-requires c).In_default (sampling (goal.at.write_steps-requires c).In_default) in (
+    let p = pair (goal.at.write_steps-requires c).In_ok-check_steps (sampling (goal.at.write_steps-requires c).In_ok-check_steps) in
+    let r = room (goal.at.write_steps-requires c).In_ok-check_steps (sampling (goal.at.write_steps-requires c).In_ok-check_steps) in (
       p.two,
       p.eight,
       p.sixteen,
       record { large = pair-large p; small = omega (arith, c.ranges) },
-      drawn (goal.at.write_steps-requires c).In_default (sampling (goal.at.write_steps-requires c).In_default),
+      drawn (goal.at.write_steps-requires c).In_ok-check_steps (sampling (goal.at.write_steps-requires c).In_ok-check_steps),
       r.0,
       search rules,
       (λ i h. ap (λ (l : List ℕ). at l i) c.zero.ensures ∙ front-zeros _ _ i h),
-      record { room = omega (arith, record_count_lem a.n a.k a.q c.copy_eight.new.to c.copy_eight-2.new.to a.words.now, bytes-room (goal.at.write_steps-requires c).In_default) },
+      record { room = omega (arith, record_count_lem a.n a.k a.q c.copy_eight.new.to c.copy_eight-2.new.to a.words.now, bytes-room (goal.at.write_steps-requires c).In_ok-check_steps) },
     )
 
 pub overflow_mul-result : goal.overflow_mul-result
-overflow_mul-result c = omega (arith, (sizes (pair (goal.at.overflow_mul-result c).In_default (sampling (goal.at.overflow_mul-result c).In_default))).bits)
+overflow_mul-result c = omega (arith, (sizes (pair (goal.at.overflow_mul-result c).In_ok-check_steps (sampling (goal.at.overflow_mul-result c).In_ok-check_steps))).bits)
 
 pub overflow_sub-result : goal.overflow_sub-result
-overflow_sub-result c = omega (arith, (pair (goal.at.overflow_sub-result c).In_default (sampling (goal.at.overflow_sub-result c).In_default)).two)
+overflow_sub-result c = omega (arith, (pair (goal.at.overflow_sub-result c).In_ok-check_steps (sampling (goal.at.overflow_sub-result c).In_ok-check_steps)).two)
 
 pub overflow_mul-result-2 : goal.overflow_mul-result-2
-overflow_mul-result-2 c = omega (arith, (sizes (pair (goal.at.overflow_mul-result-2 c).In_default (sampling (goal.at.overflow_mul-result-2 c).In_default))).per)
+overflow_mul-result-2 c = omega (arith, (sizes (pair (goal.at.overflow_mul-result-2 c).In_ok-check_steps (sampling (goal.at.overflow_mul-result-2 c).In_ok-check_steps))).per)
 
 pub overflow_mul-result-3 : goal.overflow_mul-result-3
-overflow_mul-result-3 c = omega (arith, (sizes (pair (goal.at.overflow_mul-result-3 c).In_default (sampling (goal.at.overflow_mul-result-3 c).In_default))).words)
+overflow_mul-result-3 c = omega (arith, (sizes (pair (goal.at.overflow_mul-result-3 c).In_ok-check_steps (sampling (goal.at.overflow_mul-result-3 c).In_ok-check_steps))).words)
 
 pub returns : goal.returns
 unfolding steps_sampled
 returns c =
     let a = c.args in
-    let there = (goal.at.returns c).In_default in
+    let there = (goal.at.returns c).In_ok-check_steps in
     let done = (goal.at.returns c).After-write_steps in
     let h = sampling there in
     let p = pair there h in
-    ap₂ (λ (b : Buffers) (r : List ℕ). outcome (Done (sample_words a.n a.k)) (lists b r)) (left done p h) (recorded done p)
-    ∙ settles_accepted _ _ c.check_steps.ensures (sample_words a.n a.k) (lists (both a.out.now a.work.now) a.records.now) _ c.in_default.is
+    ap₂ (λ (b : Buffers) (r : List ℕ). outcome (Ok (sample_words a.n a.k)) (lists b r)) (left done p h) (recorded done p)
+    ∙ settles_accepted _ _ c.check_steps.ensures (sample_words a.n a.k) (lists (both a.out.now a.work.now) a.records.now) _ c.in_ok-check_steps.was

@@ -8,7 +8,7 @@ use Rattle.residue.specs.Residue.{add, sub}
 use Rattle.residue.proofs.Laws.{add_cong, sub_cong, add_lt}
 use Rattle.buffers.specs.Positions.{at}
 use Rattle.records.specs.Records.{step}
-use Rattle.records.specs.Laws.{fits-rest}
+use Rattle.records.specs.Laws.{fits_behind}
 use Rattle.step_pairs.proofs.Steps.{pair-stored, pair_recorded}
 use Rattle.step_pairs.proofs.refresh_pair.Goals as goal
 use Rattle.step_pairs.proofs.refresh_pair.Goals.{After-narrow-higher, After-narrow-lower, After-widen}
@@ -30,10 +30,10 @@ narrow-lower-requires c = rw (c.add.ensures, modulus (goal.at.narrow-lower-requi
 pub narrow-higher-requires : goal.narrow-higher-requires
 narrow-higher-requires c = rw (c.sub.ensures, modulus (goal.at.narrow-higher-requires c).After-widen) (add_lt _ (omega (arith, c.requires.3.large)) _ _)
 
-pub write_record-requires : goal.write_record-requires
-write_record-requires c =
+pub write_record-requires-2 : goal.write_record-requires-2
+write_record-requires-2 c =
     let a = c.args in
-    fits-rest a.records.now a.position (step a.bit a.pair (a.i + 1) 4 c.narrow-lower.result ∷ []) (step a.bit a.pair (a.m + 1) 4 c.narrow-higher.result ∷ []) (record { room = c.requires.7.room }) c.write_record-middle.ensures
+    fits_behind (step a.bit a.pair (a.i + 1) 4 c.narrow-lower.result ∷ []) (step a.bit a.pair (a.m + 1) 4 c.narrow-higher.result ∷ []) (record { room = c.requires.7.room }) c.write_record.ensures
 
 pub returns : goal.returns
 returns c =
@@ -42,5 +42,5 @@ returns c =
     let f = higher (goal.at.returns c).After-narrow-higher in (
       length-set (set a.list.now a.i _) a.m _ ∙ length-set a.list.now a.i _ ∙ c.requires.4,
       pair-stored _ _ _ _ a.list.now _ _ c.requires.0 e f (omega (arith, c.requires.4)),
-      pair_recorded _ _ _ _ a.list.now _ _ c.requires.0 e f _ _ _ _ _ _ _ _ c.write_record-middle.ensures c.write_record.ensures,
+      record { wrote = pair_recorded _ _ _ _ a.list.now _ _ c.requires.0 e f _ _ _ _ _ _ _ _ c.write_record.ensures.wrote c.write_record-2.ensures.wrote; same = c.write_record-2.ensures.same ∙ c.write_record.ensures.same },
     )

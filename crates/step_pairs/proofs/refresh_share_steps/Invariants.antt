@@ -1,4 +1,5 @@
 -- Pair after pair.
+use mathlib.Core.Path.{◌≡◌}
 use Prim.Native.Nat.{◌+◌, ◌-◌, ◌≤◌, ◌<◌}
 use Rattle.buffers.specs.Positions.{at, after}
 use Rattle.conversion.specs.Conversion.{refresh_share}
@@ -12,4 +13,4 @@ invariant-loop-m l =
     let T = refresh_share l.q l.i (l.i + 1) (l.n - (l.i + 1)) (after l.start w) (at l.initial.list) in
     let whole = refresh_share_steps l.q l.bit l.pair l.i (l.i + 1) (l.n - (l.i + 1)) (after l.start w) (at l.initial.list) in
     let turn = l.m - (l.i + 1) in
-    (l.i < l.m) × (l.m ≤ l.n) × PairsLeft l.q l.n l.bit w T l.initial.records l.position whole (l.pair + turn) l.i l.m (l.n - l.m) (l.start + turn) l.list l.records l.end
+    (l.i < l.m) × (l.m ≤ l.n) × PairsLeft l.q l.n l.bit w T l.initial.out.text.now l.initial.out.end whole (l.pair + turn) l.i l.m (l.n - l.m) (l.start + turn) l.list l.out.text.now l.out.end × (l.out.text.ghost_name ≡ l.initial.out.text.ghost_name)

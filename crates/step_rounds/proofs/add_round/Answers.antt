@@ -25,10 +25,10 @@ pub xor_bit-list-requires : goal.xor_bit-list-requires
 xor_bit-list-requires c =
     (omega arith, omega (arith, c.requires.0), c.requires.1, c.requires.2, extended_lt _ _ _ _ _ c.extend-extended.ensures (omega (arith, c.requires.2.large)))
 
-pub write_round-end-requires : goal.write_round-end-requires
-write_round-end-requires c =
-    (c.requires.0, omega (arith, c.requires.0, c.extend-extended.ensures.eight), omega (arith, c.requires.0, c.multiply-products.ensures.eight), omega (arith, c.requires.0, c.xor_bit-list.ensures.eight), rw (lists (goal.at.write_round-end-requires c).After-xor_bit-list) c.requires.5)
+pub write_round-requires : goal.write_round-requires
+write_round-requires c =
+    (c.requires.0, omega (arith, c.requires.0, c.extend-extended.ensures.eight), omega (arith, c.requires.0, c.multiply-products.ensures.eight), omega (arith, c.requires.0, c.xor_bit-list.ensures.eight), rw (lists (goal.at.write_round-requires c).After-xor_bit-list) c.requires.5)
 
 pub returns : goal.returns
 returns c =
-    (list (goal.at.returns c).After-xor_bit-list, refl, rw (lists (goal.at.returns c).After-xor_bit-list) at c.write_round-end.ensures)
+    (list (goal.at.returns c).After-xor_bit-list, refl, rw (lists (goal.at.returns c).After-xor_bit-list) at c.write_round.ensures)

@@ -11,7 +11,7 @@ string-length : (number : ℕ) (s : ParameterSet) → parameter_set number ≡ a
 string-length number s e = within_true 1 16 s.k (sets-fit number s e).0
 
 pub distribution-requires-clause-low : goal.distribution-requires-clause-low
-distribution-requires-clause-low g c = (string-length c.args.number c.in-Set.s (sym c.in-Set.ensures)).0
+distribution-requires-clause-low g c = (string-length c.args.number c.in-Ok.s (sym c.in-Ok.ensures)).0
 
 pub distribution-requires-clause-high : goal.distribution-requires-clause-high
-distribution-requires-clause-high g c = (string-length c.args.number c.in-Set.s (sym c.in-Set.ensures)).1
+distribution-requires-clause-high g c = (string-length c.args.number c.in-Ok.s (sym c.in-Ok.ensures)).1

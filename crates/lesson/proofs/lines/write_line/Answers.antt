@@ -1,32 +1,56 @@
--- Five pieces, one behind the other; the value is itself when write_signed_field reads it.
-use mathlib.Core.Path.{ap}
-use native.Mathlib.Omega.{arith}
-use lib.ListN.{length}
+-- The number, the parameters and the value, and behind them the shares and the end of the line. The value is itself when `signed_field` reads it.
+use Rattle.std.proofs.Common.{ℕ, List, map, ◌++◌, arith, length-append}
 use Rattle.residue.proofs.Signed.{read_back}
-use Rattle.text.specs.Text.{signed, spaced}
-use Rattle.text.specs.Laws.{wrote_then}
-use Rattle.lesson.specs.Text.{parameter_fields}
-use Rattle.lesson.specs.TextLaws.{fields_line_lem, length_fields_line}
+use Rattle.text.specs.Ascii.{ascii}
+use Rattle.text.specs.Text.{decimal, signed, spaced, HasRoom, Written}
+use Rattle.text.specs.Laws.{written_then, room_behind}
+use Rattle.text.proofs.Pieces.{Pieces, first, second, third, fourth, all}
+use Rattle.lesson_samples.specs.declared.Sampled.{Sampled}
+use Rattle.lesson.specs.Text.{parameter_fields, fields_line}
+use Rattle.lesson.specs.TextLaws.{fields_line_lem}
 use Rattle.lesson.proofs.lines.write_line.Goals as goal
+use Rattle.lesson.proofs.lines.write_line.Goals.{After-signed_field}
 
-pub write_decimal-a-requires : goal.write_decimal-a-requires
-write_decimal-a-requires c = omega (arith, rw length_fields_line at c.requires)
+-- the shares and the end of the line
+abbrev last : List ℕ → List ℕ
+last shares = spaced (map decimal shares) ++ ascii "\n"
 
-pub write_parameters-b-requires : goal.write_parameters-b-requires
-write_parameters-b-requires c = omega (arith, rw length_fields_line at c.requires)
+pieces :
+    (number : ℕ)
+    (s : Sampled)
+    (shares : List ℕ)
+    → Pieces (fields_line number s.parameters.n s.parameters.k s.parameters.q s.used s.value shares)
+    (decimal number)
+    (spaced (parameter_fields s.parameters.n s.parameters.k s.parameters.q s.used))
+    (ascii " " ++ signed s.value)
+    (last shares)
+pieces number s shares = record { split = fields_line_lem number s.parameters.n s.parameters.k s.parameters.q s.used s.value shares }
 
-pub write_signed_field-c-requires : goal.write_signed_field-c-requires
-write_signed_field-c-requires c = rw (read_back c.args.sampled.value (omega arith)) (omega (arith, rw length_fields_line at c.requires))
+valued : (c : After-signed_field) → Written c.write_parameters.new.text (ascii " " ++ signed c.args.sampled.value) c.signed_field.new.self
+valued c = rw (read_back c.args.sampled.value (omega arith)) at c.signed_field.ensures
 
-pub write_words-d-requires : goal.write_words-d-requires
-write_words-d-requires c = omega (arith, rw length_fields_line at c.requires, ap (λ z. length (signed z)) (read_back c.args.sampled.value (omega arith)))
+last-room : (c : After-signed_field) → HasRoom c.signed_field.new.self (last c.args.shares.now)
+last-room c =
+    fourth c.args.text.now (pieces c.args.number c.args.sampled c.args.shares.now) c.decimal.ensures c.write_parameters.ensures (rw (read_back c.args.sampled.value (omega arith)) at c.signed_field.ensures) c.requires
 
-pub write_bytes-requires : goal.write_bytes-requires
-write_bytes-requires c = omega (arith, rw length_fields_line at c.requires, ap (λ z. length (signed z)) (read_back c.args.sampled.value (omega arith)))
+pub decimal-requires : goal.decimal-requires
+decimal-requires c = first c.args.text.now (pieces c.args.number c.args.sampled c.args.shares.now) c.requires
+
+pub write_parameters-requires : goal.write_parameters-requires
+write_parameters-requires c = second c.args.text.now (pieces c.args.number c.args.sampled c.args.shares.now) c.decimal.ensures c.requires
+
+pub signed_field-requires : goal.signed_field-requires
+signed_field-requires c =
+    rw (read_back c.args.sampled.value (omega arith))
+    (third c.args.text.now (pieces c.args.number c.args.sampled c.args.shares.now) c.decimal.ensures c.write_parameters.ensures c.requires)
+
+pub words-requires : goal.words-requires
+words-requires c = omega (arith, last-room (goal.at.words-requires c).After-signed_field, length-append (spaced (map decimal c.args.shares.now)) (ascii "\n"))
+
+pub bytes-requires : goal.bytes-requires
+bytes-requires c = room_behind (spaced (map decimal c.args.shares.now)) (ascii "\n") (last-room (goal.at.bytes-requires c).After-signed_field) c.words.ensures
 
 pub returns : goal.returns
 returns c =
-    let w = rw (read_back c.args.sampled.value (omega arith)) at c.write_signed_field-c.ensures in
-    rw fields_line_lem (wrote_then _ _ _ _ c.write_decimal-a.ensures
-    (wrote_then _ _ (let m = c.args.sampled in spaced (parameter_fields m.parameters.n m.parameters.k m.parameters.q m.used)) _ c.write_parameters-b.ensures
-    (wrote_then _ _ _ _ w (wrote_then _ _ _ _ c.write_words-d.ensures c.write_bytes.ensures))))
+    all c.args.text.now (pieces c.args.number c.args.sampled c.args.shares.now) c.decimal.ensures c.write_parameters.ensures (valued (goal.at.returns c).After-signed_field)
+    (written_then c.words.ensures c.bytes.ensures)

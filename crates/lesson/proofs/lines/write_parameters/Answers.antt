@@ -1,27 +1,30 @@
 -- Four fields, one behind the other.
-use mathlib.Core.Path.{ap}
-use native.Mathlib.Omega.{arith}
-use lib.ListN.{length}
-use Rattle.text.specs.Text.{decimal}
-use Rattle.text.specs.Laws.{wrote_then}
-use Rattle.lesson.specs.TextLaws.{parameters-spaced, length-parameters}
+use Rattle.std.proofs.Common.{ℕ, ◌++◌}
+use Rattle.text.specs.Ascii.{ascii}
+use Rattle.text.specs.Text.{decimal, spaced}
+use Rattle.text.proofs.Pieces.{Pieces, first, second, third, fourth, all}
+use Rattle.lesson.specs.Text.{parameter_fields}
+use Rattle.lesson.specs.TextLaws.{parameters-spaced}
 use Rattle.lesson.proofs.lines.write_parameters.Goals as goal
 
-pub write_field-a-requires : goal.write_field-a-requires
-write_field-a-requires c = omega (arith, (rw length-parameters at c.requires))
+pieces : (n k q used : ℕ) → Pieces (spaced (parameter_fields n k q used)) (ascii " " ++ decimal n) (ascii " " ++ decimal k) (ascii " " ++ decimal q) (ascii " " ++ decimal used)
+pieces n k q used = record { split = parameters-spaced n k q used }
 
-pub write_field-b-requires : goal.write_field-b-requires
-write_field-b-requires c = omega (arith, (rw length-parameters at c.requires))
+pub field-requires : goal.field-requires
+field-requires c = let p = c.args.parameters in first c.args.text.now (pieces p.n p.k p.q c.args.used) c.requires
 
-pub write_field-c-requires : goal.write_field-c-requires
-write_field-c-requires c = rw c.to_usize.ensures (omega (arith, (rw length-parameters at c.requires)))
+pub field-requires-2 : goal.field-requires-2
+field-requires-2 c = let p = c.args.parameters in second c.args.text.now (pieces p.n p.k p.q c.args.used) c.field.ensures c.requires
 
-pub write_field-requires : goal.write_field-requires
-write_field-requires c = omega (arith, (rw length-parameters at c.requires), ap (λ n. length (decimal n)) c.to_usize.ensures)
+pub field-requires-3 : goal.field-requires-3
+field-requires-3 c = let p = c.args.parameters in rw c.to_usize.ensures (third c.args.text.now (pieces p.n p.k p.q c.args.used) c.field.ensures c.field-2.ensures c.requires)
+
+pub field-requires-4 : goal.field-requires-4
+field-requires-4 c =
+    let p = c.args.parameters in
+    fourth c.args.text.now (pieces p.n p.k p.q c.args.used) c.field.ensures c.field-2.ensures (rw c.to_usize.ensures at c.field-3.ensures) c.requires
 
 pub returns : goal.returns
 returns c =
-    let w = rw c.to_usize.ensures at c.write_field-c.ensures in
-    rw parameters-spaced (wrote_then _ _ _ _ c.write_field-a.ensures
-    (wrote_then _ _ _ _ c.write_field-b.ensures
-    (wrote_then _ _ _ _ w c.write_field.ensures)))
+    let p = c.args.parameters in
+    all c.args.text.now (pieces p.n p.k p.q c.args.used) c.field.ensures c.field-2.ensures (rw c.to_usize.ensures at c.field-3.ensures) c.field-4.ensures
