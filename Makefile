@@ -42,11 +42,12 @@ steps: lib
 
 lib: $(library) $(header)
 
-# Made anew where a file changes, comes or goes (which changes its folder), or the toolchain does. In out/ is what rt makes.
+# Made anew where a file changes, comes or goes (which changes its folder), or the toolchain does. In out/ is what rt makes. std copies a slice by memmove; one
+# that is lent to be written lies beside every other, so memcpy does the same, and the archive needs no third function.
 $(library): build/toolchain crates.txt $(shell find crates -mindepth 2 -name out -prune -o \( -name '*.rt' -o -name '*.antt' -o -type d \) -print)
 	@tools/prove lib capi
 	@mkdir -p $(@D)
-	@cp crates/capi/out/libcapi.a $@
+	@objcopy --redefine-sym memmove=memcpy crates/capi/out/libcapi.a $@
 
 build/toolchain: always
 	@mkdir -p $(@D)
