@@ -42,12 +42,11 @@ steps: lib
 
 lib: $(library) $(header)
 
-# Made anew where a file changes, comes or goes (which changes its folder), or the toolchain does. In out/ is what rt makes. std copies a slice by memmove; one
-# that is lent to be written lies beside every other, so memcpy does the same, and the archive needs no third function.
+# Made anew where a file changes, comes or goes (which changes its folder), or the toolchain does. In out/ is what rt makes.
 $(library): build/toolchain crates.txt $(shell find crates -mindepth 2 -name out -prune -o \( -name '*.rt' -o -name '*.antt' -o -type d \) -print)
 	@tools/prove lib capi
 	@mkdir -p $(@D)
-	@objcopy --redefine-sym memmove=memcpy crates/capi/out/libcapi.a $@
+	@cp crates/capi/out/libcapi.a $@
 
 build/toolchain: always
 	@mkdir -p $(@D)

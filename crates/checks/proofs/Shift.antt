@@ -8,7 +8,7 @@ use lib.Pow.{pow_mono}
 use borrow.Author.Tests.{lt-ltb}
 use Rattle.std.proofs.Math.Decide.{dec_le}
 
-one_shifted : (k : ℕ) → k ≤ 16 → (1 * 2 ^ k) % 4294967296 ≡ 2 ^ k
+pub one_shifted : (k : ℕ) → k ≤ 16 → (1 * 2 ^ k) % 4294967296 ≡ 2 ^ k
 one_shifted k h =
     let l : 1 * 2 ^ k < 4294967296 = omega (arith, pow_mono h) in
     mod-eq_of_lt l ∙ one-mul (2 ^ k)

@@ -51,7 +51,9 @@ fn write_shares(value: u16, masks: &[u16], out: &mut [u16])
     ensures { out.new ≡ overwrite out.old 0 (mask_shares value masks.now) }
 {
     let last = value ^ xor_all(masks);
-    buffers::copy(out, 0, masks);
+    for (i, mask) in masks.iter().enumerate() {
+        out[i] = *mask;
+    }
     out[masks.len()] = last;
 }
 

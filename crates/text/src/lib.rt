@@ -33,12 +33,19 @@ impl<'a> Writer<'a> {
         self.bytes(&[48 + (value % 10) as u8]);
     }
 
+    fn space(&mut self)
+        requires { HasRoom self.old (ascii " ") }
+        ensures { Written self.old (ascii " ") self.new }
+    {
+        self.bytes(b" ");
+    }
+
     // A number behind a space.
     pub fn field(&mut self, value: usize)
         requires { HasRoom self.old (ascii " " ++ decimal value) }
         ensures { Written self.old (ascii " " ++ decimal value) self.new }
     {
-        self.bytes(b" ");
+        self.space();
         self.decimal(value);
     }
 
@@ -58,7 +65,7 @@ impl<'a> Writer<'a> {
         requires { HasRoom self.old (ascii " " ++ signed value) }
         ensures { Written self.old (ascii " " ++ signed value) self.new }
     {
-        self.bytes(b" ");
+        self.space();
         self.signed(value);
     }
 
