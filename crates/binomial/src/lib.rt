@@ -24,10 +24,10 @@ fn check_centre(q: Word, r: Word) -> Result<(), Refusal>
     ensures { reading result ≡ checked (centre_checks q r) }
 {
     if q < 3 {
-        return checks::refuse(Reason::Modulus, 0);
+        return checks::refuse(Reason::Modulus.into(), 0);
     }
     if r >= q {
-        return checks::refuse(Reason::ResidueRange, 0);
+        return checks::refuse(Reason::ResidueRange.into(), 0);
     }
     Ok(())
 }
@@ -57,13 +57,13 @@ fn check_weights(k: usize, x: u16, y: u16) -> Result<(), Refusal>
     ensures { reading result ≡ checked (weight_checks k x y) }
 {
     if !checks::within(1, 16, k) {
-        return checks::refuse(Reason::StringLength, 0);
+        return checks::refuse(Reason::StringLength.into(), 0);
     }
     if !checks::is_narrow(x, k) {
-        return checks::refuse(Reason::ValueWidth, 0);
+        return checks::refuse(Reason::ValueWidth.into(), 0);
     }
     if !checks::is_narrow(y, k) {
-        return checks::refuse(Reason::ValueWidth, 1);
+        return checks::refuse(Reason::ValueWidth.into(), 1);
     }
     Ok(())
 }
@@ -102,7 +102,7 @@ pub fn parameter_set(number: usize) -> Result<ParameterSet, Refusal>
     ensures { reading result ≡ parameter_set number }
 {
     if !checks::within(1, SETS.len(), number) {
-        return checks::refuse(Reason::SetNumber, 0);
+        return checks::refuse(Reason::SetNumber.into(), 0);
     }
     Ok(SETS[number - 1])
 }

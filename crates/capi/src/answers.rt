@@ -67,7 +67,7 @@ impl From<Result<usize, Refusal>> for TpAnswer {
         match answer {
             Ok(value) => TpAnswer { code: 0, value },
             Err(r) => TpAnswer {
-                code: r.reason.into(),
+                code: r.code,
                 value: r.position,
             },
         }
@@ -85,7 +85,7 @@ impl From<Result<OpenedString, Refusal>> for TpOpenedString {
                 opened: TpString { bits: s.0 },
             },
             Err(r) => TpOpenedString {
-                code: r.reason.into(),
+                code: r.code,
                 position: r.position,
                 opened: TpString { bits: 0 },
             },
@@ -104,7 +104,7 @@ impl From<Result<OpenedResidue, Refusal>> for TpOpenedResidue {
                 opened: TpResidue { value: s.0 },
             },
             Err(r) => TpOpenedResidue {
-                code: r.reason.into(),
+                code: r.code,
                 position: r.position,
                 opened: TpResidue { value: 0 },
             },
@@ -123,7 +123,7 @@ impl From<Result<i32, Refusal>> for TpSigned {
                 value,
             },
             Err(r) => TpSigned {
-                code: r.reason.into(),
+                code: r.code,
                 position: r.position,
                 value: 0,
             },
@@ -142,7 +142,7 @@ impl From<Result<ParameterSet, Refusal>> for TpParameters {
                 q: s.q,
             },
             Err(r) => TpParameters {
-                code: r.reason.into(),
+                code: r.code,
                 k: 0,
                 q: 0,
             },

@@ -36,7 +36,7 @@ code Reason.RecordRoom = 26
 -- of a call whose value is read by `view`
 abbrev pub reading_by : {A B : Type 0} → (A → B) → Result A Refusal → Verdict B
 reading_by view (Ok a) = accepted (view a)
-reading_by view (Err r) = refused (code r.reason) r.position
+reading_by view (Err r) = refused r.code r.position
 
 -- of any other call, or of the checks of one, which have no value
 abbrev pub reading : {A : Type 0} → Result A Refusal → Verdict A

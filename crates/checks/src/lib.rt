@@ -65,10 +65,10 @@ pub enum Reason {
     RecordRoom = 26,
 }
 
-// Why a call is refused, and the position (document 01's 'place') of what is unfit.
+// Document 01's number for a refused call, as `Reason` names it, and the position (its 'place') of what is unfit.
 #[derive(Clone, Copy, PartialEq, Eq)]
 pub struct Refusal {
-    pub reason: Reason,
+    pub code: u32,
     pub position: usize,
 }
 
@@ -80,10 +80,10 @@ impl From<Reason> for u32 {
     }
 }
 
-pub fn refuse<T>(reason: Reason, position: usize) -> Result<T, Refusal>
-    ensures { reading result ≡ refused (code reason) position }
+pub fn refuse<T>(code: u32, position: usize) -> Result<T, Refusal>
+    ensures { reading result ≡ refused code position }
 {
-    Err(Refusal { reason, position })
+    Err(Refusal { code, position })
 }
 
 // low ≤ x ≤ high.
@@ -98,13 +98,13 @@ pub fn check_parameters(n: usize, k: usize, q: Word) -> Result<(), Refusal>
     ensures { reading result ≡ checked (parameter_checks n k q) }
 {
     if !within(2, 8, n) {
-        return refuse(Reason::ShareCount, 0);
+        return refuse(Reason::ShareCount.into(), 0);
     }
     if !within(1, 16, k) {
-        return refuse(Reason::StringLength, 0);
+        return refuse(Reason::StringLength.into(), 0);
     }
     if residue::to_usize(q) < 2 * k + 1 {
-        return refuse(Reason::Modulus, 0);
+        return refuse(Reason::Modulus.into(), 0);
     }
     Ok(())
 }
@@ -128,16 +128,16 @@ pub fn check_shares(count: usize, k: usize, x: &[u16], y: &[u16]) -> Result<(), 
     ensures { reading result ≡ checked (share_checks count k x.now y.now) }
 {
     if x.len() != count {
-        return refuse(Reason::XCount, 0);
+        return refuse(Reason::XCount.into(), 0);
     }
     if y.len() != count {
-        return refuse(Reason::YCount, 0);
+        return refuse(Reason::YCount.into(), 0);
     }
     if let Some(i) = first_wide(x, k) {
-        return refuse(Reason::XWidth, i);
+        return refuse(Reason::XWidth.into(), i);
     }
     if let Some(i) = first_wide(y, k) {
-        return refuse(Reason::YWidth, i);
+        return refuse(Reason::YWidth.into(), i);
     }
     Ok(())
 }
@@ -181,10 +181,10 @@ fn check_words(words: &[Word], start: usize, bits: u32, per: u32, q: Word) -> Re
     ensures { reading result ≡ checked (word_checks start (bits * per) q words.now) }
 {
     if !has_room(start, (bits as usize) * (per as usize), words.len()) {
-        return refuse(Reason::WordCount, 0);
+        return refuse(Reason::WordCount.into(), 0);
     }
     if let Some(i) = first_not_below(words, start, bits as usize, per as usize, q) {
-        return refuse(Reason::WordRange, i);
+        return refuse(Reason::WordRange.into(), i);
     }
     Ok(())
 }
@@ -203,7 +203,7 @@ pub fn check_output(
 {
     check_words(words, start, bits, per, q)?;
     if room < shares {
-        return refuse(Reason::OutputRoom, 0);
+        return refuse(Reason::OutputRoom.into(), 0);
     }
     Ok(())
 }
@@ -224,7 +224,7 @@ pub fn check_buffers(
 {
     check_output(words, start, bits, per, q, shares, room)?;
     if area < totals {
-        return refuse(Reason::WorkRoom, 0);
+        return refuse(Reason::WorkRoom.into(), 0);
     }
     Ok(())
 }

@@ -182,19 +182,19 @@ pub fn check_value(
     ensures { reading result ≡ checked (value_checks n k q shares.now words.now start room) }
 {
     if !checks::within(2, 8, n) {
-        return checks::refuse(Reason::ShareCount, 0);
+        return checks::refuse(Reason::ShareCount.into(), 0);
     }
     if !checks::within(1, 16, k) {
-        return checks::refuse(Reason::StringLength, 0);
+        return checks::refuse(Reason::StringLength.into(), 0);
     }
     if q < 3 {
-        return checks::refuse(Reason::Modulus, 0);
+        return checks::refuse(Reason::Modulus.into(), 0);
     }
     if shares.len() != n {
-        return checks::refuse(Reason::XCount, 0);
+        return checks::refuse(Reason::XCount.into(), 0);
     }
     if let Some(i) = checks::first_wide(shares, k) {
-        return checks::refuse(Reason::XWidth, i);
+        return checks::refuse(Reason::XWidth.into(), i);
     }
     checks::check_output(words, start, k as u32, (n * (n - 1)) as u32, q, n, room)
 }

@@ -15,15 +15,15 @@ impl<T: fmt::Display> fmt::Display for Spaced<'_, T> {
     }
 }
 
-// The number of the reason, and the position.
+// The number, and the position.
 #[derive(Clone, Copy)]
 pub struct Refused(pub Refusal);
 
 impl fmt::Display for Refused {
     fn fmt<W: fmt::Write>(&self, f: &mut fmt::Formatter<W>) -> fmt::Result {
-        let reason = u32::from(self.0.reason);
+        let code = self.0.code;
         let position = self.0.position;
-        write!(f, "refused {reason} {position}")
+        write!(f, "refused {code} {position}")
     }
 }
 

@@ -2,7 +2,7 @@
 use Rattle.std.specs.Prelude.{◌≡◌, List, ◌++◌, Result, Err, IsErrAnd}
 use Rattle.std.proofs.Common.{sym, ap, ◌∙◌}
 use Rattle.checks.specs.Checks.{Check, verdict}
-use Rattle.checks.specs.Answers.{code, reading}
+use Rattle.checks.specs.Answers.{reading}
 use Rattle.checks.specs.Laws.{refuses}
 use Rattle.checks.specs.declared.Refusal.{Refusal}
 use Rattle.checks.proofs.Settles.{handed_on}
@@ -19,4 +19,4 @@ pub value_refused :
     → r ≡ Err f
     → IsErrAnd s (λ g. g ≡ f)
     → reading s ≡ verdict (cs ++ ds) b
-value_refused a b cs ds r e {f} s p h = ap reading (handed_on s f h) ∙ sym (refuses a b (code f.reason) f.position cs ds (sym e ∙ ap reading p))
+value_refused a b cs ds r e {f} s p h = ap reading (handed_on s f h) ∙ sym (refuses a b f.code f.position cs ds (sym e ∙ ap reading p))

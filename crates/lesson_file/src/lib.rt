@@ -83,13 +83,13 @@ fn check_record(file: &[u8], at: usize, mark: [u8; 2], size: usize) -> Result<()
     ensures { reading result ≡ checked (record_checks file.now at mark size) }
 {
     if !has_bytes(file, at, 2) {
-        return checks::refuse(Reason::CutShort, at);
+        return checks::refuse(Reason::CutShort.into(), at);
     }
     if !has_mark(file, at, mark) {
-        return checks::refuse(Reason::Mark, at);
+        return checks::refuse(Reason::Mark.into(), at);
     }
     if !has_bytes(file, at, size) {
-        return checks::refuse(Reason::CutShort, at);
+        return checks::refuse(Reason::CutShort.into(), at);
     }
     Ok(())
 }
@@ -159,10 +159,10 @@ impl Cursor {
         check_record(file, at, RW, 4)?;
         let count = usize::from(number_at(file, at + 2));
         if MOST_WORDS < count {
-            return checks::refuse(Reason::WordLimit, at);
+            return checks::refuse(Reason::WordLimit.into(), at);
         }
         if !has_bytes(file, at, 4 + 2 * count) {
-            return checks::refuse(Reason::CutShort, at);
+            return checks::refuse(Reason::CutShort.into(), at);
         }
         Ok(count)
     }

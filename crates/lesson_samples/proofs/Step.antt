@@ -3,7 +3,7 @@ use Rattle.std.specs.Prelude.{◌≡◌, Result, Ok, Err, List, [], ◌∷◌, �
 use Rattle.std.proofs.Common.{ap, arith}
 use Rattle.checks.specs.Checks.{refused}
 use Rattle.checks.specs.Laws.{Hold}
-use Rattle.checks.specs.Answers.{code, outcome}
+use Rattle.checks.specs.Answers.{outcome}
 use Rattle.checks.specs.declared.Refusal.{Refusal}
 use Rattle.lesson_file.specs.Layouts.{WholeSample, whole-sample, layout_longer}
 use Rattle.lesson_file.specs.Records.{Sample, sample_of, layout_at}
@@ -22,7 +22,7 @@ pub record Step (file : List ℕ) (first before after : SampleBuffers) (done : L
   pub answered : outcome a after ≡ next_sample file before p
 
 module _ {file : List ℕ} {first before after : SampleBuffers} {done : List Sample} {p : ℕ} {a : Result Sampled Refusal} (s : Step file first before after done p a) where
-  pub refused-walk : {f : Refusal} → a ≡ Err f → Walked file first after done (refused (code f.reason) f.position)
+  pub refused-walk : {f : Refusal} → a ≡ Err f → Walked file first after done (refused f.code f.position)
   refused-walk {f} i = walk.refused-at file first before done p s.walked s.unended after a s.answered f i
 
   module _ {m : Sampled} (i : a ≡ Ok m) where

@@ -123,26 +123,26 @@ module _ (file : List ℕ) (p : ℕ) (b : SampleBuffers) where
       refused-outcome = sym (ap (λ a. outcome a after) i) ∙ e
 
       -- a refusal without a sample
-      same_refusal : (number position : ℕ) → next_sample file b p ≡ refused_with file b number position → (code f.reason ≡ number) × (f.position ≡ position) × (after ≡ b)
+      same_refusal : (number position : ℕ) → next_sample file b p ≡ refused_with file b number position → (f.code ≡ number) × (f.position ≡ position) × (after ≡ b)
       same_refusal number position d =
           let r = refused-outcome ∙ d in
-          let g : ◌≡◌ {A = Verdict Sampled} (refused (code f.reason) f.position) (refused number position) = ap (λ o. o.answer) r in
+          let g : ◌≡◌ {A = Verdict Sampled} (refused f.code f.position) (refused number position) = ap (λ o. o.answer) r in
           (cc, cc, ap (λ o. o.buffers) r)
 
-      pub next-refused : length file ≤ 60000 → p < length file → ((lesson_from file p).samples ≡ []) × (ending_verdict (lesson_from file p).ending ≡ refused (code f.reason) f.position) × (after ≡ after_lesson (lesson_from file p) b)
+      pub next-refused : length file ≤ 60000 → p < length file → ((lesson_from file p).samples ≡ []) × (ending_verdict (lesson_from file p).ending ≡ refused f.code f.position) × (after ≡ after_lesson (lesson_from file p) b)
       unfolding after_lesson after_samples
       next-refused limit o = go (layout_read file p) refl
         where
-          go : (v : Verdict Layout) → layout_read file p ≡ v → ((lesson_from file p).samples ≡ []) × (ending_verdict (lesson_from file p).ending ≡ refused (code f.reason) f.position) × (after ≡ after_lesson (lesson_from file p) b)
+          go : (v : Verdict Layout) → layout_read file p ≡ v → ((lesson_from file p).samples ≡ []) × (ending_verdict (lesson_from file p).ending ≡ refused f.code f.position) × (after ≡ after_lesson (lesson_from file p) b)
           go (accepted l) d =
               let h = accepted-holds (layout_at file p) l (layout_checks file p) d in
               let r = settled-refused _ _ _ (refused-outcome ∙ next-read limit h) in
-              rw (lesson-unfit file p (code f.reason) f.position o h (refuses-alike _ tt (code f.reason) f.position _ r.0)) (refl, refl, r.1)
+              rw (lesson-unfit file p f.code f.position o h (refuses-alike _ tt f.code f.position _ r.0)) (refl, refl, r.1)
           go (refused c m) d =
               let r = same_refusal c m (next-unread limit c m d) in
               rw (lesson-unread file p c m o d, r.0, r.1) (refl, refl, r.2)
 
-      pub next_too_long : 60000 < length file → (code f.reason ≡ 21) × (f.position ≡ 0) × (after ≡ b)
+      pub next_too_long : 60000 < length file → (f.code ≡ 21) × (f.position ≡ 0) × (after ≡ b)
       next_too_long l = same_refusal 21 0 (next-long l)
 
     -- that a sample was made

@@ -10,7 +10,7 @@ use Rattle.buffers.specs.Laws.{take-front, length-overwrite}
 use Rattle.checks.specs.Checks.{accepted, refused, verdict, settled, parameter_checks, exactly, narrow}
 use Rattle.checks.specs.Laws.{Hold, hold-both, accepted-holds, accepted-answer, refuses-alike, settled-done, settled-refused, settled-accepted}
 use Rattle.checks.specs.declared.Refusal.{Refusal}
-use Rattle.checks.specs.Answers.{code, outcome}
+use Rattle.checks.specs.Answers.{outcome}
 use Rattle.binomial.specs.Signed.{centred_value}
 use Rattle.totals.specs.Sample.{sample_words}
 use Rattle.sampler.specs.Accepted.{SharedPair, shared_pair}
@@ -80,7 +80,7 @@ module _ (file : List ℕ) (l : Layout) (b after : SampleBuffers) (a : Result �
     pub made_done : (value : ℤ) → value ≡ value_of (sample_of file l) → record { answer = accepted record { parameters = l.parameters; used = used; value = value; next = l.next }; buffers = after } ≡ sample_judged file b l (sampled_at file l)
     made_done value v = rw (v, accepted-answer _ used _ settled_as.0, made_holds.1) (sym (settled-accepted (sampled_at file l) (fit_checks file l) _ _ made_holds.0))
 
-  pub made_refused : (f : Refusal) → a ≡ Err f → record { answer = refused (code f.reason) f.position; buffers = after } ≡ sample_judged file b l (sampled_at file l)
+  pub made_refused : (f : Refusal) → a ≡ Err f → record { answer = refused f.code f.position; buffers = after } ≡ sample_judged file b l (sampled_at file l)
   made_refused f i =
       let d = settled-refused _ _ _ (sym (ap (λ a. outcome a after) i) ∙ e) in
-      rw d.1 (ap (λ v. settled v (loaded (sample_of file l) b) (sampled_in (sample_of file l) b)) (sym (refuses-alike _ (sampled_at file l) (code f.reason) f.position _ d.0)))
+      rw d.1 (ap (λ v. settled v (loaded (sample_of file l) b) (sampled_in (sample_of file l) b)) (sym (refuses-alike _ (sampled_at file l) f.code f.position _ d.0)))

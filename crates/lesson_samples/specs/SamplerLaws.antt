@@ -9,7 +9,7 @@ use Rattle.checks.specs.Laws.{Hold, pass, accepted-holds, accepted-answer, passe
 use Rattle.totals.specs.Sample.{sample_words}
 use Rattle.sampler.specs.Sampler.{sample_checks, both, sampled}
 use Rattle.checks.specs.declared.Refusal.{Refusal}
-use Rattle.checks.specs.Answers.{code, outcome}
+use Rattle.checks.specs.Answers.{outcome}
 use Rattle.lesson_file.specs.Records.{Sample, sample_of}
 use Rattle.lesson_file.specs.RecordLaws.{length-words, located-holds, located-refuses}
 use Rattle.lesson_samples.specs.Call.{SampleBuffers, sample_buffers, loaded, sampled_in}
@@ -57,11 +57,11 @@ module _ (file : List ℕ) (l : Layout) (w : WholeSample file l) (b : SampleBuff
         (ap (λ c. record { answer = accepted (sample_words s.n s.k); buffers = sample_buffers (overwrite b.words 0 s.words) c.out c.work }) d.1
         ∙ sym (settled-accepted (sample_words s.n s.k) (fit_checks file l) (loaded s b) (sampled_in s b) h))
 
-    pub judged-refused : (f : Refusal) (position : ℕ) → a ≡ Err f → position ≡ record_of l (code f.reason) → record { answer = refused (code f.reason) position; buffers = sample_buffers words out work } ≡ sample_judged file b l (sample_words s.n s.k)
+    pub judged-refused : (f : Refusal) (position : ℕ) → a ≡ Err f → position ≡ record_of l f.code → record { answer = refused f.code position; buffers = sample_buffers words out work } ≡ sample_judged file b l (sample_words s.n s.k)
     unfolding sampled fit_checks sample_of
     judged-refused f position i j =
         let d = settled-refused _ _ _ (sym (ap (λ a. outcome a (both out work)) i) ∙ e) in
-        let v = located-refuses (record_of l) end (sample_words s.n s.k) (code f.reason) f.position (other_checks s) (sym others_decide ∙ d.0) in
+        let v = located-refuses (record_of l) end (sample_words s.n s.k) f.code f.position (other_checks s) (sym others_decide ∙ d.0) in
         rw (m, j)
-        (ap (λ c. record { answer = refused (code f.reason) (record_of l (code f.reason)); buffers = sample_buffers (overwrite b.words 0 s.words) c.out c.work }) d.1
+        (ap (λ c. record { answer = refused f.code (record_of l f.code); buffers = sample_buffers (overwrite b.words 0 s.words) c.out c.work }) d.1
         ∙ ap (λ u. settled u (loaded s b) (sampled_in s b)) (sym v))

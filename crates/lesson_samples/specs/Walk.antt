@@ -7,7 +7,7 @@ use native.Mathlib.Omega.{arith}
 use Rattle.std.proofs.lemmas.Bool.{lt-leb}
 use Rattle.std.proofs.Math.ListN.{length}
 use Rattle.checks.specs.Checks.{Verdict, accepted, refused}
-use Rattle.checks.specs.Answers.{code, outcome}
+use Rattle.checks.specs.Answers.{outcome}
 use Rattle.checks.specs.declared.Refusal.{Refusal}
 use Rattle.lesson_file.specs.Layouts.{layout_longer}
 use Rattle.lesson_file.specs.Records.{Sample, sample_of, layout_at}
@@ -85,11 +85,11 @@ module _ (file : List ℕ) (first : SampleBuffers) where
 
     module _ (o : p < length file) (after : SampleBuffers) (a : Result Sampled Refusal) (e : outcome a after ≡ next_sample file now p) where
       -- it is refused here
-      pub refused-at : (f : Refusal) → a ≡ Err f → Walked file first after done (refused (code f.reason) f.position)
+      pub refused-at : (f : Refusal) → a ≡ Err f → Walked file first after done (refused f.code f.position)
       unfolding after_lesson after_samples
       refused-at f i = go (dec_le (length file) 60000)
         where
-          go : Dec (length file ≤ 60000) → Walked file first after done (refused (code f.reason) f.position)
+          go : Dec (length file ≤ 60000) → Walked file first after done (refused f.code f.position)
           go (yes l) = finished after _ (rw (rest_short file p l) (next-refused file p now after a e f i l o))
           go (no l) =
               let long : 60000 < length file = omega arith in

@@ -4,7 +4,7 @@
 ghost use Rattle.std.specs.Prelude.{◌≡◌, take, ◌+◌, ◌≤◌, length};
 ghost use Rattle.residue.specs.Residue.{reduce, total, EachBelow};
 ghost use Rattle.checks.specs.Checks.{checked};
-ghost use Rattle.checks.specs.Answers.{code, reading, outcome};
+ghost use Rattle.checks.specs.Answers.{reading, outcome};
 ghost use Rattle.binomial.specs.Signed.{centred_value};
 ghost use Rattle.totals.specs.Sample.{sample_words};
 ghost use Rattle.text.specs.Text.{HasRoom, Written};
@@ -50,14 +50,16 @@ impl<'a> Buffers<'a> {
 pub const FILE_LIMIT: usize = 60000;
 
 // The record at which a refusal of the sampler is reported.
-fn record_of(layout: Layout, reason: Reason) -> usize
-    ensures { result ≡ record_of layout (code reason) }
+fn record_of(layout: Layout, code: u32) -> usize
+    ensures { result ≡ record_of layout code }
 {
-    match reason {
-        Reason::XWidth => layout.lists.x,
-        Reason::YWidth => layout.lists.y,
-        _ => layout.lists.next.at,
+    if code == u32::from(Reason::XWidth) {
+        return layout.lists.x;
     }
+    if code == u32::from(Reason::YWidth) {
+        return layout.lists.y;
+    }
+    layout.lists.next.at
 }
 
 // The shares of the sample whose records lie there. RW's words, and no others, are lent to the sampler, which starts at the first of them: its
@@ -90,7 +92,7 @@ fn make_shares(
         work,
     ) {
         Ok(used) => Ok(used),
-        Err(r) => checks::refuse(r.reason, record_of(layout, r.reason)),
+        Err(r) => checks::refuse(r.code, record_of(layout, r.code)),
     }
 }
 
@@ -138,7 +140,7 @@ pub fn next_sample(
     ensures { (outcome result (held buffers.new) ≡ next_sample file.now (held buffers.old) cursor.at) × SameBuffers buffers.old buffers.new }
 {
     if FILE_LIMIT < file.len() {
-        return checks::refuse(Reason::FileLength, 0);
+        return checks::refuse(Reason::FileLength.into(), 0);
     }
     let layout = cursor.read_sample(file)?;
     make_sample(file, layout, buffers)
@@ -146,11 +148,11 @@ pub fn next_sample(
 
 // Writes a refusal's line.
 pub fn write_refusal(text: &mut Writer<'_>, refusal: Refusal)
-    requires { HasRoom text.old (refusal_line (code refusal.reason) refusal.position) }
-    ensures { Written text.old (refusal_line (code refusal.reason) refusal.position) text.new }
+    requires { HasRoom text.old (refusal_line refusal.code refusal.position) }
+    ensures { Written text.old (refusal_line refusal.code refusal.position) text.new }
 {
     text.bytes(b"refused");
-    text.field(u32::from(refusal.reason) as usize);
+    text.field(refusal.code as usize);
     text.field(refusal.position);
     text.bytes(b"\n");
 }
@@ -167,16 +169,16 @@ pub fn check_buffers(
     ensures { reading result ≡ checked (call_checks room words out area text) }
 {
     if words < lesson_file::MOST_WORDS {
-        return checks::refuse(Reason::WordCount, 0);
+        return checks::refuse(Reason::WordCount.into(), 0);
     }
     if out < 8 {
-        return checks::refuse(Reason::OutputRoom, 0);
+        return checks::refuse(Reason::OutputRoom.into(), 0);
     }
     if text < room {
-        return checks::refuse(Reason::OutputRoom, 0);
+        return checks::refuse(Reason::OutputRoom.into(), 0);
     }
     if area < 8 {
-        return checks::refuse(Reason::WorkRoom, 0);
+        return checks::refuse(Reason::WorkRoom.into(), 0);
     }
     Ok(())
 }

@@ -25,22 +25,22 @@ fn check_mask(n: usize, k: usize, value: u16, masks: &[u16], room: usize) -> Res
     ensures { reading result ≡ checked (mask_checks n k value masks.now room) }
 {
     if !checks::within(2, 8, n) {
-        return checks::refuse(Reason::ShareCount, 0);
+        return checks::refuse(Reason::ShareCount.into(), 0);
     }
     if !checks::within(1, 16, k) {
-        return checks::refuse(Reason::StringLength, 0);
+        return checks::refuse(Reason::StringLength.into(), 0);
     }
     if !checks::is_narrow(value, k) {
-        return checks::refuse(Reason::ValueWidth, 0);
+        return checks::refuse(Reason::ValueWidth.into(), 0);
     }
     if masks.len() != n - 1 {
-        return checks::refuse(Reason::MaskCount, 0);
+        return checks::refuse(Reason::MaskCount.into(), 0);
     }
     if let Some(i) = checks::first_wide(masks, k) {
-        return checks::refuse(Reason::MaskWidth, i);
+        return checks::refuse(Reason::MaskWidth.into(), i);
     }
     if room < n {
-        return checks::refuse(Reason::OutputRoom, 0);
+        return checks::refuse(Reason::OutputRoom.into(), 0);
     }
     Ok(())
 }
@@ -77,16 +77,16 @@ fn check_open_string(n: usize, k: usize, shares: &[u16]) -> Result<(), Refusal>
     ensures { reading result ≡ checked (open_string_checks n k shares.now) }
 {
     if !checks::within(2, 8, n) {
-        return checks::refuse(Reason::ShareCount, 0);
+        return checks::refuse(Reason::ShareCount.into(), 0);
     }
     if !checks::within(1, 16, k) {
-        return checks::refuse(Reason::StringLength, 0);
+        return checks::refuse(Reason::StringLength.into(), 0);
     }
     if shares.len() != n {
-        return checks::refuse(Reason::XCount, 0);
+        return checks::refuse(Reason::XCount.into(), 0);
     }
     if let Some(i) = checks::first_wide(shares, k) {
-        return checks::refuse(Reason::XWidth, i);
+        return checks::refuse(Reason::XWidth.into(), i);
     }
     Ok(())
 }
@@ -116,16 +116,16 @@ fn check_open_residue(n: usize, q: Word, shares: &[Word]) -> Result<(), Refusal>
     ensures { reading result ≡ checked (open_residue_checks n q shares.now) }
 {
     if !checks::within(2, 8, n) {
-        return checks::refuse(Reason::ShareCount, 0);
+        return checks::refuse(Reason::ShareCount.into(), 0);
     }
     if q < 3 {
-        return checks::refuse(Reason::Modulus, 0);
+        return checks::refuse(Reason::Modulus.into(), 0);
     }
     if shares.len() != n {
-        return checks::refuse(Reason::ArithmeticCount, 0);
+        return checks::refuse(Reason::ArithmeticCount.into(), 0);
     }
     if let Some(i) = checks::first_not_below(shares, 0, 1, n, q) {
-        return checks::refuse(Reason::ArithmeticRange, i);
+        return checks::refuse(Reason::ArithmeticRange.into(), i);
     }
     Ok(())
 }

@@ -88,13 +88,13 @@ fn check_lists(
     ensures { reading result ≡ checked (list_checks n set k bytes.now xroom yroom) }
 {
     if !checks::within(1, 2, set) {
-        return checks::refuse(Reason::NoiseSet, 0);
+        return checks::refuse(Reason::NoiseSet.into(), 0);
     }
     if bytes.len() != n * (64 * k) {
-        return checks::refuse(Reason::NoiseLength, 0);
+        return checks::refuse(Reason::NoiseLength.into(), 0);
     }
     if xroom < 256 * n || yroom < 256 * n {
-        return checks::refuse(Reason::OutputRoom, 0);
+        return checks::refuse(Reason::OutputRoom.into(), 0);
     }
     Ok(())
 }
@@ -109,7 +109,7 @@ fn check_noise(
     ensures { reading result ≡ checked (noise_checks n set bytes.now xroom yroom) }
 {
     if !checks::within(2, 8, n) {
-        return checks::refuse(Reason::ShareCount, 0);
+        return checks::refuse(Reason::ShareCount.into(), 0);
     }
     let s = binomial::parameter_set(set)?;
     check_lists(n, set, s.k, bytes, xroom, yroom)

@@ -70,7 +70,7 @@ fn check_strings(n: usize, k: usize, q: Word, m: usize, x: &[u16], y: &[u16]) ->
 {
     checks::check_parameters(n, k, q)?;
     if !checks::within(1, 256, m) {
-        return checks::refuse(Reason::CoefficientCount, 0);
+        return checks::refuse(Reason::CoefficientCount.into(), 0);
     }
     checks::check_shares(m * n, k, x, y)
 }

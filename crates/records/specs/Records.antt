@@ -3,16 +3,6 @@ use Rattle.std.specs.Prelude.{List, [], ◌∷◌, ◌++◌, ℕ, zero, suc, ◌
 use Rattle.text.specs.Ascii.{ascii}
 use Rattle.text.specs.declared.Writer.{Writer}
 use Rattle.text.specs.Text.{Wrote, Written}
-use Rattle.records.specs.declared.Kind.{Kind}
-
--- the number that a record shows
-abbrev pub code : Kind → ℕ
-code Kind.Share = 0
-code Kind.Extended = 1
-code Kind.Product = 2
-code Kind.Converted = 3
-code Kind.Pair = 4
-code Kind.Total = 5
 
 -- the fields behind the mark; rounds, pairs and shares are counted from 1
 pub record Step : Type 0 where

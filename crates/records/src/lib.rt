@@ -3,7 +3,7 @@
 
 ghost use Rattle.std.specs.Prelude.{◌≡◌, [], ◌∷◌, ◌≤◌, length};
 ghost use Rattle.buffers.specs.Positions.{at};
-ghost use Rattle.records.specs.Records.{code, step, value_bytes, per_share, FitsIn, RecordedBy};
+ghost use Rattle.records.specs.Records.{step, value_bytes, per_share, FitsIn, RecordedBy};
 
 use residue::Word;
 use text::Writer;
@@ -38,12 +38,12 @@ fn value_bytes(value: Word) -> [u8; 2]
 
 // A record: its mark, and its fields.
 #[tactic(auto, unfolding(crate::specs::Records::bytes))]
-pub fn write_record(out: &mut Writer<'_>, bit: u8, round: u8, share: u8, kind: Kind, value: Word)
-    requires { FitsIn out.old (step bit round share (code kind) value ∷ []) }
-    ensures { RecordedBy out.old (step bit round share (code kind) value ∷ []) out.new }
+pub fn write_record(out: &mut Writer<'_>, bit: u8, round: u8, share: u8, kind: u8, value: Word)
+    requires { FitsIn out.old (step bit round share kind value ∷ []) }
+    ensures { RecordedBy out.old (step bit round share kind value ∷ []) out.new }
 {
     let [low, high] = value_bytes(value);
-    let record = [b'S', b'T', bit, round, share, kind as u8, low, high];
+    let record = [b'S', b'T', bit, round, share, kind, low, high];
     // Eight bytes, so that the copy is one store: `out.bytes` is a call.
     let p = out.end;
     out.text[p..p + RECORD_BYTES].copy_from_slice(&record);
@@ -51,9 +51,9 @@ pub fn write_record(out: &mut Writer<'_>, bit: u8, round: u8, share: u8, kind: K
 }
 
 // A record for each of the first n values, which are those of the shares from 1 on.
-pub fn write_group(out: &mut Writer<'_>, bit: u8, round: u8, kind: Kind, n: usize, values: &[Word])
-    requires { (n ≤ 8) × (n ≤ length values.now) × FitsIn out.old (per_share n bit round (code kind) (at values.now)) }
-    ensures { RecordedBy out.old (per_share n bit round (code kind) (at values.now)) out.new }
+pub fn write_group(out: &mut Writer<'_>, bit: u8, round: u8, kind: u8, n: usize, values: &[Word])
+    requires { (n ≤ 8) × (n ≤ length values.now) × FitsIn out.old (per_share n bit round kind (at values.now)) }
+    ensures { RecordedBy out.old (per_share n bit round kind (at values.now)) out.new }
 {
     for (i, value) in values[..n].iter().enumerate() {
         write_record(out, bit, round, (i + 1) as u8, kind, *value);

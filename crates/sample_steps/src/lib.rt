@@ -61,7 +61,7 @@ fn add_bit_steps(
     let bits = conversion::bits_at(shares, t);
     let list = convert_bit_steps(&bits, n, q, words, start, bit, out);
     totals::add_row(&list, n, q, negative, work);
-    records::write_group(out, bit, 0, Kind::Total, n, work);
+    records::write_group(out, bit, 0, Kind::Total as u8, n, work);
 }
 
 // The k bits of a string, numbered from `first` on, whose shares stand in front of the array. Each bit takes the next n(n - 1) words from `start` on.
@@ -151,7 +151,7 @@ fn check_steps(
     sampler::check_sample(n, k, q, x, y, words, 0, room, area)?;
     let per = 5 * n * (n + 1) / 2 - 3;
     if size < records::RECORD_BYTES * (2 * k * per) {
-        return checks::refuse(Reason::RecordRoom, 0);
+        return checks::refuse(Reason::RecordRoom.into(), 0);
     }
     Ok(())
 }

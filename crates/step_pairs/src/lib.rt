@@ -33,8 +33,8 @@ fn refresh_pair(
     let higher = residue::narrow(residue::sub(residue::widen(list[m]), word, modulus), q);
     list[i] = lower;
     list[m] = higher;
-    records::write_record(out, bit, pair, (i + 1) as u8, Kind::Pair, lower);
-    records::write_record(out, bit, pair, (m + 1) as u8, Kind::Pair, higher);
+    records::write_record(out, bit, pair, (i + 1) as u8, Kind::Pair as u8, lower);
+    records::write_record(out, bit, pair, (m + 1) as u8, Kind::Pair as u8, higher);
 }
 
 // The pairs of share i with the shares behind it, up to n, the first of them numbered `pair`, take the words from `start` on.

@@ -73,10 +73,10 @@ fn write_round(
     ensures { RecordedBy out.old (list_steps bit j b (at extended.now) (at products.now) (at list.now)) out.new }
 {
     let round = (j + 1) as u8;
-    records::write_record(out, bit, round, round, Kind::Share, b);
-    records::write_group(out, bit, round, Kind::Extended, j + 1, extended);
-    records::write_group(out, bit, round, Kind::Product, j + 1, products);
-    records::write_group(out, bit, round, Kind::Converted, j + 1, list);
+    records::write_record(out, bit, round, round, Kind::Share as u8, b);
+    records::write_group(out, bit, round, Kind::Extended as u8, j + 1, extended);
+    records::write_group(out, bit, round, Kind::Product as u8, j + 1, products);
+    records::write_group(out, bit, round, Kind::Converted as u8, j + 1, list);
 }
 
 // Round j + 1, from the list for j shares, the j words at `start` and the next share b of the bit.
@@ -119,7 +119,7 @@ pub fn convert_steps(
 {
     if j == 1 {
         let list = conversion::one_share(bits[0]);
-        records::write_record(out, bit, 1, 1, Kind::Share, bits[0]);
+        records::write_record(out, bit, 1, 1, Kind::Share as u8, bits[0]);
         return Unrefreshed { list, next: start };
     }
     add_share_steps(bits, j - 1, q, words, start, bit, out)

@@ -6,7 +6,7 @@ use Rattle.binomial.proofs.parameter_set.Goals as goal
 
 pub returns-then-not-within : goal.returns-then-not-within
 unfolding parameter_set
-returns-then-not-within c = c.refuse.ensures ∙ sym (fail _ _ _ (sym c.within.ensures ∙ c.if-not-within.true))
+returns-then-not-within c = (rw c.into.ensures at c.refuse.ensures) ∙ sym (fail _ _ _ (sym c.within.ensures ∙ c.if-not-within.true))
 
 pub returns : goal.returns
 unfolding parameter_set sets

@@ -11,7 +11,7 @@ past4 c = pass tt _ _ (sym c.within.ensures ∙ c.if-not-within.false) ∙ pass 
 
 pub returns-in-Some : goal.returns-in-Some
 returns-in-Some c =
-    c.refuse-in-Some.ensures
+    (rw c.into-in-Some.ensures at c.refuse-in-Some.ensures)
     ∙ sym (past4 (goal.at.returns-in-Some c).Else-shares-n ∙ fail-some tt _ _ _ _ _ _ (first_position _ _ ∙ sym c.first_wide.ensures ∙ c.in-Some.is))
 
 pub returns : goal.returns

@@ -22,7 +22,7 @@ module _ (c : In_ok-layout) where
 pub returns-then-file-gt-FILE_LIMIT : goal.returns-then-file-gt-FILE_LIMIT
 returns-then-file-gt-FILE_LIMIT c =
     let b = held c.args.buffers.now in
-    (ap (λ v. record { answer = v; buffers = b }) c.refuse.ensures ∙ sym (next-long c.args.file.now c.args.cursor.at b c.if-file-gt-FILE_LIMIT.true), search rules)
+    (ap (λ v. record { answer = v; buffers = b }) (rw c.into.ensures at c.refuse.ensures) ∙ sym (next-long c.args.file.now c.args.cursor.at b c.if-file-gt-FILE_LIMIT.true), search rules)
 
 pub make_sample-requires : goal.make_sample-requires
 make_sample-requires c =

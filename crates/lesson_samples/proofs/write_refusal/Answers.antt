@@ -2,7 +2,6 @@
 use Rattle.std.proofs.Common.{ℕ, ◌++◌}
 use Rattle.text.specs.Ascii.{ascii}
 use Rattle.text.specs.Text.{decimal}
-use Rattle.checks.specs.Answers.{code}
 use Rattle.lesson_samples.specs.RefusalLine.{refusal_line}
 use Rattle.lesson_samples.specs.RefusalLaws.{refusal_line_lem}
 use Rattle.text.proofs.Pieces.{Pieces, first, second, third, fourth, all}
@@ -12,16 +11,16 @@ pieces : (code position : ℕ) → Pieces (refusal_line code position) (ascii "r
 pieces code position = record { split = refusal_line_lem code position }
 
 pub bytes-requires : goal.bytes-requires
-bytes-requires c = first c.args.text.now (pieces (code c.args.refusal.reason) c.args.refusal.position) c.requires
+bytes-requires c = first c.args.text.now (pieces c.args.refusal.code c.args.refusal.position) c.requires
 
 pub field-requires : goal.field-requires
-field-requires c = rw c.from.ensures (second c.args.text.now (pieces (code c.args.refusal.reason) c.args.refusal.position) c.bytes.ensures c.requires)
+field-requires c = second c.args.text.now (pieces c.args.refusal.code c.args.refusal.position) c.bytes.ensures c.requires
 
 pub field-requires-2 : goal.field-requires-2
-field-requires-2 c = third c.args.text.now (pieces (code c.args.refusal.reason) c.args.refusal.position) c.bytes.ensures (rw c.from.ensures at c.field.ensures) c.requires
+field-requires-2 c = third c.args.text.now (pieces c.args.refusal.code c.args.refusal.position) c.bytes.ensures c.field.ensures c.requires
 
 pub bytes-requires-2 : goal.bytes-requires-2
-bytes-requires-2 c = fourth c.args.text.now (pieces (code c.args.refusal.reason) c.args.refusal.position) c.bytes.ensures (rw c.from.ensures at c.field.ensures) c.field-2.ensures c.requires
+bytes-requires-2 c = fourth c.args.text.now (pieces c.args.refusal.code c.args.refusal.position) c.bytes.ensures c.field.ensures c.field-2.ensures c.requires
 
 pub returns : goal.returns
-returns c = all c.args.text.now (pieces (code c.args.refusal.reason) c.args.refusal.position) c.bytes.ensures (rw c.from.ensures at c.field.ensures) c.field-2.ensures c.bytes-2.ensures
+returns c = all c.args.text.now (pieces c.args.refusal.code c.args.refusal.position) c.bytes.ensures c.field.ensures c.field-2.ensures c.bytes-2.ensures

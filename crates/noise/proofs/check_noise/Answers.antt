@@ -19,7 +19,7 @@ found : (c : In_ok-s) → parameter_set c.args.set ≡ accepted c.in_ok-s.s
 found c = sym c.parameter_set.ensures ∙ ap reading c.in_ok-s.was
 
 pub returns-then-not-within : goal.returns-then-not-within
-returns-then-not-within c = c.refuse.ensures ∙ sym (fail tt _ _ (sym c.within.ensures ∙ c.if-not-within.true))
+returns-then-not-within c = (rw c.into.ensures at c.refuse.ensures) ∙ sym (fail tt _ _ (sym c.within.ensures ∙ c.if-not-within.true))
 
 pub returns-in_err-s : goal.returns-in_err-s
 returns-in_err-s c =

@@ -50,7 +50,7 @@ pub overflow_mul-k-3 : goal.overflow_mul-k-3
 overflow_mul-k-3 c = omega (arith, (sizes c).records)
 
 pub returns-then-size-k : goal.returns-then-size-k
-returns-then-size-k c = c.refuse.ensures ∙ sym (past (goal.at.returns-then-size-k c).In_ok-check_sample ∙ fail tt _ _ (lt-leb _ _ c.if-size-k.true))
+returns-then-size-k c = (rw c.into.ensures at c.refuse.ensures) ∙ sym (past (goal.at.returns-then-size-k c).In_ok-check_sample ∙ fail tt _ _ (lt-leb _ _ c.if-size-k.true))
 
 pub returns : goal.returns
 returns c = sym (past (goal.at.returns c).In_ok-check_sample ∙ pass tt _ _ (le-leb _ _ c.if-size-k.false) ∙ pass_all tt)
