@@ -6,7 +6,7 @@ use Rattle.std.proofs.Math.Decide.{dec_le}
 use Rattle.std.proofs.lemmas.Bool.{lt-leb}
 use Rattle.checks.specs.Checks.{Verdict, accepted, refused, verdict, checked}
 use Rattle.checks.specs.Laws.{Hold, not_both, accepts, accepted-holds, accepted-answer, refuses-alike, settled-answer, settled-refused, settled-accepted}
-use Rattle.checks.specs.Answers.{code, outcome}
+use Rattle.checks.specs.Answers.{outcome}
 use Rattle.checks.specs.declared.Refusal.{Refusal}
 use Rattle.lesson_file.specs.Layouts.{layout_longer}
 use Rattle.lesson_file.specs.Records.{layout_read, Sample, sample_of, layout_at, layout_checks}
