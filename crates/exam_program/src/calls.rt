@@ -1,5 +1,5 @@
 // A line for each call: the value's letter, the call, and what the library gives.
-use crate::print::{Given, Spaced};
+use crate::print::{Centred, Field, Given, Spaced, print};
 use masking::{OpenedResidue, OpenedString};
 use residue::Word;
 use std::io;
@@ -18,12 +18,18 @@ pub fn sample(
 ) -> io::Result<()> {
     let mut work: [Word; 8] = [65535; 8];
     let count = sampler::sample(n, k, q, x, y, words, 0, out, &mut work);
-    print!(rt;
-        "{letter} sample n {n} k {k} q {q} x{} y{} words{} {}",
-        Spaced(x),
-        Spaced(y),
-        Spaced(words),
-        Given("gives", count)
+    print(
+        rt,
+        format_args!(
+            "{letter} sample{}{}{} x{} y{} words{}{}",
+            Field(" n", n),
+            Field(" k", k),
+            Field(" q", q),
+            Spaced(x),
+            Spaced(y),
+            Spaced(words),
+            Given(" gives", count)
+        ),
     )?;
     if count.is_ok() {
         print_opened(rt, n, q, out)?;
@@ -34,18 +40,26 @@ pub fn sample(
 fn print_opened(rt: &impl Print, n: usize, q: Word, shares: &[Word]) -> io::Result<()> {
     let opened = masking::open_residue(n, q, shares);
     let residue = opened.map(|r| r.0);
-    print!(rt; " shares{} {}", Spaced(shares), Given("residue", residue))?;
+    print(
+        rt,
+        format_args!(" shares{}{}", Spaced(shares), Given(" residue", residue)),
+    )?;
     if let Ok(r) = opened {
-        print!(rt; " {}", Given("centred", binomial::centre(q, r)))?;
+        print(rt, Centred(" centred", binomial::centre(q, r)))?;
     }
     Ok(())
 }
 
 pub fn centre(rt: &impl Print, letter: char, q: Word, r: Word) -> io::Result<()> {
     let value = binomial::centre(q, OpenedResidue(r));
-    println!(rt;
-        "{letter} centre q {q} residue {r} {}",
-        Given("gives", value)
+    print(
+        rt,
+        format_args!(
+            "{letter} centre{}{}{}\n",
+            Field(" q", q),
+            Field(" residue", r),
+            Centred(" gives", value)
+        ),
     )
 }
 
@@ -60,14 +74,23 @@ pub fn mask(
     out: &mut [u16],
 ) -> io::Result<()> {
     let count = masking::mask(n, k, OpenedString(value), masks, out);
-    print!(rt;
-        "{letter} mask n {n} k {k} value {value} masks{} {}",
-        Spaced(masks),
-        Given("gives", count)
+    print(
+        rt,
+        format_args!(
+            "{letter} mask{}{}{} masks{}{}",
+            Field(" n", n),
+            Field(" k", k),
+            Field(" value", value),
+            Spaced(masks),
+            Given(" gives", count)
+        ),
     )?;
     if count.is_ok() {
         let opened = masking::open_string(n, k, out).map(|s| s.0);
-        print!(rt; " shares{} {}", Spaced(out), Given("opened", opened))?;
+        print(
+            rt,
+            format_args!(" shares{}{}", Spaced(out), Given(" opened", opened)),
+        )?;
     }
     println!(rt)
 }

@@ -2,7 +2,7 @@
 // opened and centred in three shares. The lists have room for k up to 16.
 ghost use Rattle.std.specs.Prelude.{◌≤◌};
 
-use crate::print::{Refused, Spaced};
+use crate::print::{Centred, Field, Refused, Spaced, print};
 use checks::Refusal;
 use masking::OpenedString;
 use residue::Word;
@@ -78,7 +78,7 @@ fn count(rt: &impl Print, k: usize, z: i32, counts: &mut [usize; 33]) -> io::Res
     requires { k ≤ 16 }
 {
     if z.unsigned_abs() > k as u32 {
-        return print!(rt; " outside {z}");
+        return print(rt, Centred(" outside", Ok(z)));
     }
     let i = (k as i32 + z) as usize;
     counts[i] = counts[i].wrapping_add(1);
@@ -102,7 +102,7 @@ fn count_pair(
     let last = draw_words(number, q, &mut words);
     match sample_pair(k, q, x, y, last, &words) {
         Ok(z) => count(rt, k, z, counts)?,
-        Err(r) => print!(rt; " {}", Refused(r))?,
+        Err(r) => print(rt, Refused(r))?,
     }
     Ok(last)
 }
@@ -125,21 +125,26 @@ fn distribution(rt: &impl Print, k: usize, q: Word) -> io::Result<()>
     requires low { 1 ≤ k }
     requires high { k ≤ 16 }
 {
-    print!(rt; " k {k} q {q}")?;
+    print(rt, format_args!("{}{}", Field(" k", k), Field(" q", q)))?;
     let mut counts: [usize; 33] = [0; 33];
     count_pairs(rt, k, q, &mut counts)?;
     let pairs = 1usize << (2 * k);
-    print!(rt;
-        " n 3 samples -{k} to {k} pairs{} of {pairs}",
-        Spaced(&counts[..2 * k + 1])
+    print(
+        rt,
+        format_args!(
+            " n 3 samples -{k}{} pairs{}{}",
+            Field(" to", k),
+            Spaced(&counts[..2 * k + 1]),
+            Field(" of", pairs)
+        ),
     )
 }
 
 pub fn print_set(rt: &impl Print, number: usize) -> io::Result<()> {
-    print!(rt; "fips203 set {number}")?;
+    print(rt, Field("fips203 set", number))?;
     match binomial::parameter_set(number) {
         Ok(s) => distribution(rt, s.k, s.q)?,
-        Err(r) => print!(rt; " {}", Refused(r))?,
+        Err(r) => print(rt, Refused(r))?,
     }
     println!(rt)
 }
