@@ -1,5 +1,5 @@
 // A line for each call: the value's letter, the call, and what the library gives.
-use crate::print::{Centred, Field, Given, Spaced, print};
+use crate::print::{Field, Given, Signed, Spaced, print};
 use masking::{OpenedResidue, OpenedString};
 use residue::Word;
 use std::io;
@@ -45,7 +45,7 @@ fn print_opened(rt: &impl Print, n: usize, q: Word, shares: &[Word]) -> io::Resu
         format_args!(" shares{}{}", Spaced(shares), Given(" residue", residue)),
     )?;
     if let Ok(r) = opened {
-        print(rt, Centred(" centred", binomial::centre(q, r)))?;
+        print(rt, Signed(" centred", binomial::centre(q, r)))?;
     }
     Ok(())
 }
@@ -58,7 +58,7 @@ pub fn centre(rt: &impl Print, letter: char, q: Word, r: Word) -> io::Result<()>
             "{letter} centre{}{}{}\n",
             Field(" q", q),
             Field(" residue", r),
-            Centred(" gives", value)
+            Signed(" gives", value)
         ),
     )
 }

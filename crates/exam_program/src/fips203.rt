@@ -2,7 +2,7 @@
 // opened and centred in three shares. The lists have room for k up to 16.
 ghost use Rattle.std.specs.Prelude.{◌≤◌};
 
-use crate::print::{Centred, Field, Refused, Spaced, print};
+use crate::print::{Field, Refused, Signed, Spaced, print};
 use checks::Refusal;
 use masking::OpenedString;
 use residue::Word;
@@ -78,7 +78,7 @@ fn count(rt: &impl Print, k: usize, z: i32, counts: &mut [usize; 33]) -> io::Res
     requires { k ≤ 16 }
 {
     if z.unsigned_abs() > k as u32 {
-        return print(rt, Centred(" outside", Ok(z)));
+        return print(rt, Signed(" outside", Ok(z)));
     }
     let i = (k as i32 + z) as usize;
     counts[i] = counts[i].wrapping_add(1);

@@ -29,7 +29,7 @@ pub fn print<P: Print, D: fmt::Display + Drop>(rt: &P, value: D) -> io::Result<(
     out.printed
 }
 
-// A name, and a value behind a space.
+// A name, a space and a value, each a piece: written out in a format, the name and the space would be one.
 #[derive(Clone, Copy)]
 pub struct Field<'a, T>(pub &'a str, pub T);
 
@@ -70,19 +70,18 @@ pub struct Given<'a, T>(pub &'a str, pub Result<T, Refusal>);
 
 impl<T: fmt::Display> fmt::Display for Given<'_, T> {
     fn fmt<W: fmt::Write>(&self, f: &mut fmt::Formatter<W>) -> fmt::Result {
-        let name = self.0;
         match &self.1 {
-            Ok(value) => write!(f, "{name} {value}"),
+            Ok(value) => write!(f, "{}", Field(self.0, value)),
             Err(r) => write!(f, "{}", Refused(*r)),
         }
     }
 }
 
-// The same of a centred value: its sign is one piece with the space.
+// The same of a value with a sign, which is one piece with the space.
 #[derive(Clone, Copy)]
-pub struct Centred<'a>(pub &'a str, pub Result<i32, Refusal>);
+pub struct Signed<'a>(pub &'a str, pub Result<i32, Refusal>);
 
-impl fmt::Display for Centred<'_> {
+impl fmt::Display for Signed<'_> {
     fn fmt<W: fmt::Write>(&self, f: &mut fmt::Formatter<W>) -> fmt::Result {
         let name = self.0;
         match self.1 {
